@@ -1,0 +1,192 @@
+use mathlib.Core.Path.{sym, _∙_}
+use Rattle.lexer.specs.Words.{kindOf}
+use borrow.Author.Needs.{needs}
+use Rattle.lexer.proofs.words.word_kind.Statement.{statement}
+use Rattle.lexer.proofs.words.word_kind.Tie as tie
+
+returns : tie.Need-returns
+unfolding kindOf
+returns c =
+    simp (sym (c .before .same .ensures) ∙ c .if1 .taken)
+
+returns-2 : tie.Need-returns-2
+unfolding kindOf
+returns-2 c =
+    simp (
+      sym (c .before .before .before .before .same .ensures) ∙ c .before .before .before .if1 .left,
+      sym (c .before .same2 .ensures) ∙ c .if2 .taken,
+    )
+
+returns-3 : tie.Need-returns-3
+unfolding kindOf
+returns-3 c =
+    simp (
+      sym (c .before .before .before .before .before .before .before .same .ensures) ∙ c .before .before .before .before .before .before .if1 .left,
+      sym (c .before .before .before .before .same2 .ensures) ∙ c .before .before .before .if2 .left,
+      sym (c .before .same3 .ensures) ∙ c .if3 .taken,
+    )
+
+returns-4 : tie.Need-returns-4
+unfolding kindOf
+returns-4 c =
+    simp (
+      sym (c .before .before .before .before .before .before .before .before .before .before .same .ensures) ∙ c .before .before .before .before .before .before .before .before .before .if1 .left,
+      sym (c .before .before .before .before .before .before .before .same2 .ensures) ∙ c .before .before .before .before .before .before .if2 .left,
+      sym (c .before .before .before .before .same3 .ensures) ∙ c .before .before .before .if3 .left,
+      sym (c .before .same4 .ensures) ∙ c .if4 .taken,
+    )
+
+returns-5 : tie.Need-returns-5
+unfolding kindOf
+returns-5 c =
+    simp (
+      sym (c .before .before .before .before .before .before .before .before .before .before .before .before .before .same .ensures) ∙ c .before .before .before .before .before .before .before .before .before .before .before .before .if1 .left,
+      sym (c .before .before .before .before .before .before .before .before .before .before .same2 .ensures) ∙ c .before .before .before .before .before .before .before .before .before .if2 .left,
+      sym (c .before .before .before .before .before .before .before .same3 .ensures) ∙ c .before .before .before .before .before .before .if3 .left,
+      sym (c .before .before .before .before .same4 .ensures) ∙ c .before .before .before .if4 .left,
+      sym (c .before .same5 .ensures) ∙ c .if5 .taken,
+    )
+
+returns-6 : tie.Need-returns-6
+unfolding kindOf
+returns-6 c =
+    simp (
+      sym (c .before .before .before .before .before .before .before .before .before .before .before .before .before .before .before .before .same .ensures) ∙ c .before .before .before .before .before .before .before .before .before .before .before .before .before .before .before .if1 .left,
+      sym (c .before .before .before .before .before .before .before .before .before .before .before .before .before .same2 .ensures) ∙ c .before .before .before .before .before .before .before .before .before .before .before .before .if2 .left,
+      sym (c .before .before .before .before .before .before .before .before .before .before .same3 .ensures) ∙ c .before .before .before .before .before .before .before .before .before .if3 .left,
+      sym (c .before .before .before .before .before .before .before .same4 .ensures) ∙ c .before .before .before .before .before .before .if4 .left,
+      sym (c .before .before .before .before .same5 .ensures) ∙ c .before .before .before .if5 .left,
+      sym (c .before .same6 .ensures) ∙ c .if6 .taken,
+    )
+
+returns-7 : tie.Need-returns-7
+unfolding kindOf
+returns-7 c =
+    simp (
+      sym (c .before .before .before .before .before .before .before .before .before .before .before .before .before .before .before .before .before .before .before .same .ensures) ∙ c .before .before .before .before .before .before .before .before .before .before .before .before .before .before .before .before .before .before .if1 .left,
+      sym (c .before .before .before .before .before .before .before .before .before .before .before .before .before .before .before .before .same2 .ensures) ∙ c .before .before .before .before .before .before .before .before .before .before .before .before .before .before .before .if2 .left,
+      sym (c .before .before .before .before .before .before .before .before .before .before .before .before .before .same3 .ensures) ∙ c .before .before .before .before .before .before .before .before .before .before .before .before .if3 .left,
+      sym (c .before .before .before .before .before .before .before .before .before .before .same4 .ensures) ∙ c .before .before .before .before .before .before .before .before .before .if4 .left,
+      sym (c .before .before .before .before .before .before .before .same5 .ensures) ∙ c .before .before .before .before .before .before .if5 .left,
+      sym (c .before .before .before .before .same6 .ensures) ∙ c .before .before .before .if6 .left,
+      sym (c .before .same7 .ensures) ∙ c .if7 .taken,
+    )
+
+returns-8 : tie.Need-returns-8
+unfolding kindOf
+returns-8 c =
+    simp (
+      sym (c .before .before .before .before .before .before .before .before .before .before .before .before .before .before .before .before .before .before .before .before .before .before .same .ensures) ∙ c .before .before .before .before .before .before .before .before .before .before .before .before .before .before .before .before .before .before .before .before .before .if1 .left,
+      sym (c .before .before .before .before .before .before .before .before .before .before .before .before .before .before .before .before .before .before .before .same2 .ensures) ∙ c .before .before .before .before .before .before .before .before .before .before .before .before .before .before .before .before .before .before .if2 .left,
+      sym (c .before .before .before .before .before .before .before .before .before .before .before .before .before .before .before .before .same3 .ensures) ∙ c .before .before .before .before .before .before .before .before .before .before .before .before .before .before .before .if3 .left,
+      sym (c .before .before .before .before .before .before .before .before .before .before .before .before .before .same4 .ensures) ∙ c .before .before .before .before .before .before .before .before .before .before .before .before .if4 .left,
+      sym (c .before .before .before .before .before .before .before .before .before .before .same5 .ensures) ∙ c .before .before .before .before .before .before .before .before .before .if5 .left,
+      sym (c .before .before .before .before .before .before .before .same6 .ensures) ∙ c .before .before .before .before .before .before .if6 .left,
+      sym (c .before .before .before .before .same7 .ensures) ∙ c .before .before .before .if7 .left,
+      sym (c .before .same8 .ensures) ∙ c .if8 .taken,
+    )
+
+returns-9 : tie.Need-returns-9
+unfolding kindOf
+returns-9 c =
+    simp (
+      sym (c .before .before .before .before .before .before .before .before .before .before .before .before .before .before .before .before .before .before .before .before .before .before .before .before .before .same .ensures) ∙ c .before .before .before .before .before .before .before .before .before .before .before .before .before .before .before .before .before .before .before .before .before .before .before .before .if1 .left,
+      sym (c .before .before .before .before .before .before .before .before .before .before .before .before .before .before .before .before .before .before .before .before .before .before .same2 .ensures) ∙ c .before .before .before .before .before .before .before .before .before .before .before .before .before .before .before .before .before .before .before .before .before .if2 .left,
+      sym (c .before .before .before .before .before .before .before .before .before .before .before .before .before .before .before .before .before .before .before .same3 .ensures) ∙ c .before .before .before .before .before .before .before .before .before .before .before .before .before .before .before .before .before .before .if3 .left,
+      sym (c .before .before .before .before .before .before .before .before .before .before .before .before .before .before .before .before .same4 .ensures) ∙ c .before .before .before .before .before .before .before .before .before .before .before .before .before .before .before .if4 .left,
+      sym (c .before .before .before .before .before .before .before .before .before .before .before .before .before .same5 .ensures) ∙ c .before .before .before .before .before .before .before .before .before .before .before .before .if5 .left,
+      sym (c .before .before .before .before .before .before .before .before .before .before .same6 .ensures) ∙ c .before .before .before .before .before .before .before .before .before .if6 .left,
+      sym (c .before .before .before .before .before .before .before .same7 .ensures) ∙ c .before .before .before .before .before .before .if7 .left,
+      sym (c .before .before .before .before .same8 .ensures) ∙ c .before .before .before .if8 .left,
+      sym (c .before .same9 .ensures) ∙ c .if9 .taken,
+    )
+
+returns-10 : tie.Need-returns-10
+unfolding kindOf
+returns-10 c =
+    simp (
+      sym (c .before .before .before .before .before .before .before .before .before .before .before .before .before .before .before .before .before .before .before .before .before .before .before .before .before .before .before .before .same .ensures) ∙ c .before .before .before .before .before .before .before .before .before .before .before .before .before .before .before .before .before .before .before .before .before .before .before .before .before .before .before .if1 .left,
+      sym (c .before .before .before .before .before .before .before .before .before .before .before .before .before .before .before .before .before .before .before .before .before .before .before .before .before .same2 .ensures) ∙ c .before .before .before .before .before .before .before .before .before .before .before .before .before .before .before .before .before .before .before .before .before .before .before .before .if2 .left,
+      sym (c .before .before .before .before .before .before .before .before .before .before .before .before .before .before .before .before .before .before .before .before .before .before .same3 .ensures) ∙ c .before .before .before .before .before .before .before .before .before .before .before .before .before .before .before .before .before .before .before .before .before .if3 .left,
+      sym (c .before .before .before .before .before .before .before .before .before .before .before .before .before .before .before .before .before .before .before .same4 .ensures) ∙ c .before .before .before .before .before .before .before .before .before .before .before .before .before .before .before .before .before .before .if4 .left,
+      sym (c .before .before .before .before .before .before .before .before .before .before .before .before .before .before .before .before .same5 .ensures) ∙ c .before .before .before .before .before .before .before .before .before .before .before .before .before .before .before .if5 .left,
+      sym (c .before .before .before .before .before .before .before .before .before .before .before .before .before .same6 .ensures) ∙ c .before .before .before .before .before .before .before .before .before .before .before .before .if6 .left,
+      sym (c .before .before .before .before .before .before .before .before .before .before .same7 .ensures) ∙ c .before .before .before .before .before .before .before .before .before .if7 .left,
+      sym (c .before .before .before .before .before .before .before .same8 .ensures) ∙ c .before .before .before .before .before .before .if8 .left,
+      sym (c .before .before .before .before .same9 .ensures) ∙ c .before .before .before .if9 .left,
+      sym (c .before .same10 .ensures) ∙ c .if10 .taken,
+    )
+
+returns-11 : tie.Need-returns-11
+unfolding kindOf
+returns-11 c =
+    simp (
+      sym (c .before .before .before .before .before .before .before .before .before .before .before .before .before .before .before .before .before .before .before .before .before .before .before .before .before .before .before .before .before .before .same .ensures) ∙ c .before .before .before .before .before .before .before .before .before .before .before .before .before .before .before .before .before .before .before .before .before .before .before .before .before .before .before .before .before .if1 .left,
+      sym (c .before .before .before .before .before .before .before .before .before .before .before .before .before .before .before .before .before .before .before .before .before .before .before .before .before .before .before .same2 .ensures) ∙ c .before .before .before .before .before .before .before .before .before .before .before .before .before .before .before .before .before .before .before .before .before .before .before .before .before .before .if2 .left,
+      sym (c .before .before .before .before .before .before .before .before .before .before .before .before .before .before .before .before .before .before .before .before .before .before .before .before .same3 .ensures) ∙ c .before .before .before .before .before .before .before .before .before .before .before .before .before .before .before .before .before .before .before .before .before .before .before .if3 .left,
+      sym (c .before .before .before .before .before .before .before .before .before .before .before .before .before .before .before .before .before .before .before .before .before .same4 .ensures) ∙ c .before .before .before .before .before .before .before .before .before .before .before .before .before .before .before .before .before .before .before .before .if4 .left,
+      sym (c .before .before .before .before .before .before .before .before .before .before .before .before .before .before .before .before .before .before .same5 .ensures) ∙ c .before .before .before .before .before .before .before .before .before .before .before .before .before .before .before .before .before .if5 .left,
+      sym (c .before .before .before .before .before .before .before .before .before .before .before .before .before .before .before .same6 .ensures) ∙ c .before .before .before .before .before .before .before .before .before .before .before .before .before .before .if6 .left,
+      sym (c .before .before .before .before .before .before .before .before .before .before .before .before .same7 .ensures) ∙ c .before .before .before .before .before .before .before .before .before .before .before .if7 .left,
+      sym (c .before .before .before .before .before .before .before .before .before .same8 .ensures) ∙ c .before .before .before .before .before .before .before .before .if8 .left,
+      sym (c .before .before .before .before .before .before .same9 .ensures) ∙ c .before .before .before .before .before .if9 .left,
+      sym (c .before .before .before .same10 .ensures) ∙ c .before .before .if10 .left,
+      sym (c .before .name-like .ensures) ∙ c .if11 .taken,
+    )
+
+returns-12 : tie.Need-returns-12
+unfolding kindOf
+returns-12 c =
+    simp (
+      sym (c .before .before .before .before .before .before .before .before .before .before .before .before .before .before .before .before .before .before .before .before .before .before .before .before .before .before .before .before .before .before .before .same .ensures) ∙ c .before .before .before .before .before .before .before .before .before .before .before .before .before .before .before .before .before .before .before .before .before .before .before .before .before .before .before .before .before .before .if1 .left,
+      sym (c .before .before .before .before .before .before .before .before .before .before .before .before .before .before .before .before .before .before .before .before .before .before .before .before .before .before .before .before .same2 .ensures) ∙ c .before .before .before .before .before .before .before .before .before .before .before .before .before .before .before .before .before .before .before .before .before .before .before .before .before .before .before .if2 .left,
+      sym (c .before .before .before .before .before .before .before .before .before .before .before .before .before .before .before .before .before .before .before .before .before .before .before .before .before .same3 .ensures) ∙ c .before .before .before .before .before .before .before .before .before .before .before .before .before .before .before .before .before .before .before .before .before .before .before .before .if3 .left,
+      sym (c .before .before .before .before .before .before .before .before .before .before .before .before .before .before .before .before .before .before .before .before .before .before .same4 .ensures) ∙ c .before .before .before .before .before .before .before .before .before .before .before .before .before .before .before .before .before .before .before .before .before .if4 .left,
+      sym (c .before .before .before .before .before .before .before .before .before .before .before .before .before .before .before .before .before .before .before .same5 .ensures) ∙ c .before .before .before .before .before .before .before .before .before .before .before .before .before .before .before .before .before .before .if5 .left,
+      sym (c .before .before .before .before .before .before .before .before .before .before .before .before .before .before .before .before .same6 .ensures) ∙ c .before .before .before .before .before .before .before .before .before .before .before .before .before .before .before .if6 .left,
+      sym (c .before .before .before .before .before .before .before .before .before .before .before .before .before .same7 .ensures) ∙ c .before .before .before .before .before .before .before .before .before .before .before .before .if7 .left,
+      sym (c .before .before .before .before .before .before .before .before .before .before .same8 .ensures) ∙ c .before .before .before .before .before .before .before .before .before .if8 .left,
+      sym (c .before .before .before .before .before .before .before .same9 .ensures) ∙ c .before .before .before .before .before .before .if9 .left,
+      sym (c .before .before .before .before .same10 .ensures) ∙ c .before .before .before .if10 .left,
+      sym (c .before .before .name-like .ensures) ∙ c .before .if11 .left,
+      c .digit-kind .ensures,
+    )
+
+pub word-kind-spec : {M : Type 1} → statement M
+word-kind-spec =
+    tie.close
+    (tie.spec
+    (λ c. search needs)
+    (λ c κs. search needs)
+    returns
+    (λ c. search needs)
+    (λ c κs. search needs)
+    returns-2
+    (λ c. search needs)
+    (λ c κs. search needs)
+    returns-3
+    (λ c. search needs)
+    (λ c κs. search needs)
+    returns-4
+    (λ c. search needs)
+    (λ c κs. search needs)
+    returns-5
+    (λ c. search needs)
+    (λ c κs. search needs)
+    returns-6
+    (λ c. search needs)
+    (λ c κs. search needs)
+    returns-7
+    (λ c. search needs)
+    (λ c κs. search needs)
+    returns-8
+    (λ c. search needs)
+    (λ c κs. search needs)
+    returns-9
+    (λ c. search needs)
+    (λ c κs. search needs)
+    returns-10
+    (λ c κs. search needs)
+    returns-11
+    (λ c κs. search needs)
+    returns-12)

@@ -1,0 +1,67 @@
+use borrow.Author.Tests.{eq-eqb, ne-eqb}
+use borrow.Author.Needs.{needs}
+use mathlib.Core.Path.{_≡_, sym, _∙_}
+use Prim.Native.Nat.{ℕ, suc, _+_, _-_, _≤_}
+use native.Mathlib.Numerals.{add-one}
+use native.Mathlib.Omega.{arith}
+use lib.ListN.{length, drop, getD}
+use Rattle.lexer.specs.Class.{wordy, spacey}
+use Rattle.lexer.specs.Run.{run}
+use Rattle.lexer.proofs.RunLaws.{run-more-one, run-stop, run-end}
+use Rattle.lexer.proofs.words.word_length.Statement.{statement}
+use Rattle.lexer.proofs.words.word_length.Tie as tie
+
+abbrev Inv-loop : tie.InvT-loop
+Inv-loop s i₀ i = (i ≤ length s) × (length (run wordy s) ≡ i + length (run wordy (drop i s)))
+
+abbrev μ-loop : tie.MeasureT-loop
+μ-loop s i₀ i = length s - i
+
+loop-holds : tie.Need-loop-holds Inv-loop μ-loop
+loop-holds c = search needs
+
+shared-slice-read-in-word : tie.Need-shared-slice-read-in-word Inv-loop μ-loop
+shared-slice-read-in-word c = search needs
+
+in-word-requires : tie.Need-in-word-requires Inv-loop μ-loop
+in-word-requires c κs = search needs
+
+add-i : tie.Need-add-i Inv-loop μ-loop
+add-i c = search needs
+
+loop-less : tie.Need-loop-less Inv-loop μ-loop
+loop-less c = search needs
+
+loop-again : tie.Need-loop-again Inv-loop μ-loop
+loop-again c =
+    let s = c .before .before .before .before .before .before .args .s .now in
+    let i = c .before .before .before .before .loop .i in
+    let e = run-more-one wordy s i (search needs) (sym (c .before .in-word .ensures) ∙ c .if1 .taken) in
+    omega arith
+
+returns : tie.Need-returns Inv-loop μ-loop
+returns c =
+    let s = c .before .before .before .before .before .before .args .s .now in
+    let i = c .before .before .before .before .loop .i in
+    let e = run-stop wordy s i (search needs) (sym (c .before .in-word .ensures) ∙ c .if1 .left) in
+    omega arith
+
+returns-2 : tie.Need-returns-2 Inv-loop μ-loop
+returns-2 c =
+    let e = run-end wordy (c .before .before .before .args .s .now) (c .before .loop .i) (c .loop-test .left) in
+    omega arith
+
+pub word-length-spec : {M : Type 1} → statement M
+word-length-spec =
+    tie.close
+    (tie.spec
+    Inv-loop
+    μ-loop
+    loop-holds
+    shared-slice-read-in-word
+    in-word-requires
+    add-i
+    loop-less
+    loop-again
+    returns
+    returns-2)
