@@ -11,9 +11,9 @@ use borrow.Author.Tests.{eqb-true, leb-true}
 use Rattle.lexer.specs.Class.{within}
 use Rattle.lexer.specs.Words.{same, nameLike, digitKind, kindOf, anyW, reserved, placeFrom}
 
-both-left : (a b : Bool) → a && b ≡ true → a ≡ true
-both-left true b e = refl
-both-left false b e = e
+pub and-left : (a b : Bool) → a && b ≡ true → a ≡ true
+and-left true b e = refl
+and-left false b e = e
 
 pub same-true : (a k : List ℕ) → same a k ≡ true → a ≡ k
 unfolding same
@@ -57,7 +57,7 @@ other-kind w j h e = go (nameLike w) (eqb (length w) 1) (within 48 57 (getD w 0 
   where
     go : (a b c : Bool) → within 48 57 (getD w 0 0) ≡ c → cond a 0 (cond b (cond c (getD w 0 0 - 36) 11) 11) ≡ 1 + j → ⊥
     go true b c q e = omega arith
-    go false true true q e = let l = leb-true 48 (getD w 0 0) (both-left (leb 48 (getD w 0 0)) (leb (getD w 0 0) 57) q) in omega arith
+    go false true true q e = let l = leb-true 48 (getD w 0 0) (and-left (leb 48 (getD w 0 0)) (leb (getD w 0 0) 57) q) in omega arith
     go false true false q e = omega arith
     go false false c q e = omega arith
 
@@ -79,9 +79,9 @@ place-high i (k ∷ ks) w d h = go (same w k) h (place-high (suc i) ks w d)
     go true h ih = absurd (omega arith)
     go false h ih = ih (omega arith)
 
-both-right : (a b : Bool) → a && b ≡ true → b ≡ true
-both-right true b e = e
-both-right false b e = let z : _≡_ {A = ℕ} 0 1 = cc in absurd (omega arith)
+pub and-right : (a b : Bool) → a && b ≡ true → b ≡ true
+and-right true b e = e
+and-right false b e = let z : _≡_ {A = ℕ} 0 1 = cc in absurd (omega arith)
 
 one-long : (w : List ℕ) → length w ≡ 1 → w ≡ getD w 0 0 ∷ []
 one-long [] e = absurd (omega arith)
@@ -99,8 +99,8 @@ kind-digit w h =
         → (kindOf w ≤ 21) × (w ≡ (kindOf w + 36) ∷ [])
     go true b c p q e = absurd (omega arith)
     go false true true p q e =
-        let lo : 48 ≤ getD w 0 0 = leb-true 48 (getD w 0 0) (both-left (leb 48 (getD w 0 0)) (leb (getD w 0 0) 57) q) in
-        let hi : getD w 0 0 ≤ 57 = leb-true (getD w 0 0) 57 (both-right (leb 48 (getD w 0 0)) (leb (getD w 0 0) 57) q) in
+        let lo : 48 ≤ getD w 0 0 = leb-true 48 (getD w 0 0) (and-left (leb 48 (getD w 0 0)) (leb (getD w 0 0) 57) q) in
+        let hi : getD w 0 0 ≤ 57 = leb-true (getD w 0 0) 57 (and-right (leb 48 (getD w 0 0)) (leb (getD w 0 0) 57) q) in
         let b₁ : getD w 0 0 ≡ kindOf w + 36 = omega arith in
         (omega arith, one-long w (eqb-true (length w) 1 p) ∙ ap (λ (x : ℕ). x ∷ []) b₁)
     go false true false p q e = absurd (omega arith)

@@ -1,0 +1,131 @@
+-- A reader's answers put together as the parsers are.
+-- Assumes nothing.
+use mathlib.Core.Path.{_≡_, refl, ap, sym, _∙_, subst}
+use mathlib.Core.Bool.{Bool, true, false, cond}
+use mathlib.Core.List.{List, [], _∷_}
+use Prim.Native.Nat.{ℕ, zero, suc, _+_, _-_, _*_, _<_, _≤_}
+use native.Mathlib.Omega.{arith}
+use lib.ListN.{length}
+use Rattle.lexer.specs.Tokens.{Token, tokens, last}
+use Rattle.lexer.proofs.TokenLaws.{last-length, last-last, last-all}
+use Rattle.grammar.specs.Parsed.{Parsed, none, some, map, bind, choose, isNone, whole}
+use Rattle.grammar.specs.Answers.{Answers, Shorter, Follows, FollowsLevel}
+use Rattle.grammar.specs.declared.leaves.Reading.{Reading}
+use Rattle.grammar.specs.declared.leaves.Reading.the-variants.{Left, Bad}
+
+pub map-answers : {A B : Type 0} (f : A → B) (p : Parsed A) (s : List ℕ) (r : Reading) → Answers p s r → Answers (map f p) s r
+unfolding Answers
+map-answers f none s (Left n) h = h
+map-answers f none s Bad h = h
+map-answers f (some a ts) s (Left n) h = h
+map-answers f (some a ts) s Bad h = h
+
+-- what is left of a text's end is left of the text
+carry : {A : Type 0} (p : Parsed A) (s : List ℕ) (n : ℕ) (r : Reading) → n ≤ length s → Answers p (last n s) r → Answers p s r
+unfolding Answers
+carry none s n (Left m) l h = h
+carry none s n Bad l h = h
+carry (some a ts) s n (Left m) l h =
+    let q : length (last n s) ≡ n = last-length n s l in
+    let m≤ : m ≤ n = omega arith in
+    (omega arith, ap tokens (sym (last-last m n s m≤ l)) ∙ h .1)
+carry (some a ts) s n Bad l h = h
+
+-- t is what the first reader left, and the second reads on from there
+pub bind-left : {A B : Type 0} (p : Parsed A) (k : A → List Token → Parsed B) (s : List ℕ) (n : ℕ) (t : List ℕ) (r : Reading) → Answers p s (Left n) → t ≡ last n s
+    → ((a : A) → Answers (k a (tokens t)) t r) → Answers (bind p k) s r
+unfolding Answers
+bind-left none k s n t r h e g = absurd h
+bind-left (some a ts) k s n t r h e g =
+    subst (λ (us : List Token). Answers (k a us) s r) (h .1)
+    (carry (k a (tokens (last n s))) s n r (h .0) (subst (λ (u : List ℕ). Answers (k a (tokens u)) u r) e (g a)))
+
+pub bind-bad : {A B : Type 0} (p : Parsed A) (k : A → List Token → Parsed B) (s : List ℕ) → Answers p s Bad → Answers (bind p k) s Bad
+unfolding Answers
+bind-bad none k s h = tt
+bind-bad (some a ts) k s h = absurd h
+
+pub choose-left : {A B : Type 0} (p : Parsed A) (k : A → List Token → Parsed B) (d : Parsed B) (s : List ℕ) (n : ℕ) (t : List ℕ) (r : Reading) → Answers p s (Left n) → t ≡ last n s
+    → ((a : A) → Answers (k a (tokens t)) t r) → Answers (choose p k d) s r
+unfolding Answers
+choose-left none k d s n t r h e g = absurd h
+choose-left (some a ts) k d s n t r h e g =
+    subst (λ (us : List Token). Answers (k a us) s r) (h .1)
+    (carry (k a (tokens (last n s))) s n r (h .0) (subst (λ (u : List ℕ). Answers (k a (tokens u)) u r) e (g a)))
+
+pub choose-bad : {A B : Type 0} (p : Parsed A) (k : A → List Token → Parsed B) (d : Parsed B) (s : List ℕ) (r : Reading) → Answers p s Bad → Answers d s r → Answers (choose p k d) s r
+unfolding Answers
+choose-bad none k d s r h g = g
+choose-bad (some a ts) k d s r h g = absurd h
+
+pub when-true : {A : Type 0} (q : Bool) (p d : Parsed A) (s : List ℕ) (r : Reading) → q ≡ true → Answers p s r → Answers (cond q p d) s r
+when-true q p d s r e h = rw e h
+
+pub when-false : {A : Type 0} (q : Bool) (p d : Parsed A) (s : List ℕ) (r : Reading) → q ≡ false → Answers d s r → Answers (cond q p d) s r
+when-false q p d s r e h = rw e h
+
+-- everything is left
+pub all-left : {A : Type 0} (a : A) (n : ℕ) (s t : List ℕ) → n ≤ length s → t ≡ last n s → Answers (some a (tokens t)) t (Left n)
+unfolding Answers
+all-left a n s t h e =
+    let l : length t ≡ n = ap length e ∙ last-length n s h in
+    (omega arith, ap tokens (subst (λ (k : ℕ). last k t ≡ t) l (last-all t)))
+
+-- shorter than a part is shorter than the whole
+pub shorter-part : (s t : List ℕ) (n : ℕ) (r : Reading) → Shorter s (Left n) → t ≡ last n s → Shorter t r → Shorter s r
+unfolding Shorter
+shorter-part s t n (Left m) h e g =
+    let l : length (last n s) ≡ n = last-length n s (omega arith) in
+    let q : length t ≡ length (last n s) = ap length e in
+    omega arith
+shorter-part s t n Bad h e g = tt
+
+-- the rest after all of it
+pub everything : {A : Type 0} (a : A) (s : List ℕ) → Answers (some a (tokens s)) s (Left (length s))
+unfolding Answers
+everything a s = (omega arith, ap tokens (last-all s))
+
+-- whether all was read
+pub whole-left : {A : Type 0} (p : Parsed A) (s t : List ℕ) (n : ℕ) (b : Bool) → Answers p s (Left n) → t ≡ last n s → b ≡ isNone (tokens t) → b ≡ whole p
+unfolding Answers whole
+whole-left none s t n b h e g = absurd h
+whole-left (some a ts) s t n b h e g = g ∙ ap (λ (u : List ℕ). isNone (tokens u)) e ∙ ap isNone (h .1)
+
+pub whole-bad : {A : Type 0} (p : Parsed A) (s : List ℕ) → Answers p s Bad → false ≡ whole p
+unfolding Answers whole
+whole-bad none s h = refl
+whole-bad (some a ts) s h = absurd h
+
+pub answer-le : {A : Type 0} (p : Parsed A) (s : List ℕ) (n : ℕ) → Answers p s (Left n) → n ≤ length s
+unfolding Answers
+answer-le none s n h = absurd h
+answer-le (some a ts) s n h = h .0
+
+-- one reader after another
+
+pub chain-bad : {A B : Type 0} (p : List Token → Parsed A) (k : A → List Token → Parsed B) (s : List ℕ) → Follows p s Bad → Follows (λ ts. bind (p ts) k) s Bad
+unfolding Shorter
+chain-bad p k s h = record { shorter = tt; answers = bind-bad (p (tokens s)) k s (h .answers) }
+
+some-value : {A : Type 0} (C : Type 0) (p : Parsed A) (s : List ℕ) (n : ℕ) → Answers p s (Left n) → (A → C) → C
+unfolding Answers
+some-value C none s n h g = absurd h
+some-value C (some a ts) s n h g = g a
+
+pub chain : {A B : Type 0} (p : List Token → Parsed A) (k : A → List Token → Parsed B) (s : List ℕ) (n : ℕ) (t : List ℕ) (r : Reading)
+    → Follows p s (Left n) → t ≡ last n s → ((a : A) → Follows (k a) t r) → Follows (λ ts. bind (p ts) k) s r
+chain p k s n t r h e g = record {
+  shorter = shorter-part s t n r (h .shorter) e (some-value (Shorter t r) (p (tokens s)) s n (h .answers) (λ a. g a .shorter));
+  answers = bind-left (p (tokens s)) k s n t r (h .answers) e (λ a. g a .answers);
+}
+
+pub mapped : {A B : Type 0} (f : A → B) (p : List Token → Parsed A) (s : List ℕ) (r : Reading) → Follows p s r → Follows (λ ts. map f (p ts)) s r
+mapped f p s r h = record { shorter = h .shorter; answers = map-answers f (p (tokens s)) s r (h .answers) }
+
+-- a level's reader at one depth
+pub at-depth : {A : Type 0} (l : ℕ) (parse : ℕ → List Token → Parsed A) (s : List ℕ) (r : Reading) (f : ℕ) → FollowsLevel l parse s r → length s * 8 + l < f → Follows (parse f) s r
+at-depth l parse s r f h q = record { shorter = h .shorter; answers = h .answers f q }
+
+-- a level's reader from its readers at each depth
+pub at-depths : {A : Type 0} (l : ℕ) (parse : ℕ → List Token → Parsed A) (s : List ℕ) (r : Reading) → ((f : ℕ) → length s * 8 + l < f → Follows (parse f) s r) → FollowsLevel l parse s r
+at-depths l parse s r g = record { shorter = g (length s * 8 + l + 1) (omega arith) .shorter; answers = λ f q. g f q .answers }

@@ -1,0 +1,39 @@
+use Rattle.grammar.proofs.AnswerLaws.{chain, chain-bad, mapped}
+use Rattle.grammar.specs.Parser.{roleOf, headOf}
+use borrow.Author.Needs.{needs}
+use Rattle.grammar.proofs.lines.head.Statement.{statement}
+use Rattle.grammar.proofs.lines.head.Tie as tie
+
+returns : tie.Need-returns
+unfolding headOf
+returns c = chain-bad _ _ _ (rw (c .enum-told .given .1) at (c .before .before .word-at .ensures))
+
+returns-2 : tie.Need-returns-2
+unfolding headOf
+returns-2 c =
+    let r0 = c .before .before .before in
+    chain _ _ _ _ _ _ (rw (r0 .before .before .a .given .1) at (r0 .before .before .before .before .word-at .ensures)) (r0 .rest .ensures) (λ _. chain-bad _ _ _ (rw (c .enum-told2 .given .1) at (c .before .before .word-at2 .ensures)))
+
+returns-3 : tie.Need-returns-3
+unfolding headOf
+returns-3 c =
+    let r1 = c .before in
+    let r0 = r1 .before .before .before .before .before in
+    chain _ _ _ _ _ _ (rw (r0 .before .before .a .given .1) at (r0 .before .before .before .before .word-at .ensures)) (r0 .rest .ensures) (λ _. chain _ _ _ _ _ _ (rw (r1 .before .before .b .given .1) at (r1 .before .before .before .before .word-at2 .ensures)) (r1 .rest2 .ensures) (λ _. mapped _ _ _ _ (c .mark-at .ensures)))
+
+pub head-spec : {M : Type 1} → statement M
+head-spec =
+    tie.close
+    (tie.spec
+    (λ c κs. search needs)
+    (λ c. search needs)
+    (λ c. search needs)
+    returns
+    (λ c κs. search needs)
+    (λ c κs. search needs)
+    (λ c. search needs)
+    (λ c. search needs)
+    returns-2
+    (λ c κs. search needs)
+    (λ c κs. search needs)
+    returns-3)

@@ -1,0 +1,11 @@
+pub mod Trees
+pub mod AsRead
+pub mod Spell
+pub mod Valid
+pub mod Rename
+pub mod Names
+pub mod Size
+pub mod Parsed
+pub mod Parser
+pub mod Answers
+pub mod Lines

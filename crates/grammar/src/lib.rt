@@ -1,0 +1,15 @@
+// The rule language: recognizers of role lines, rule lines and events, over any bytes of any length.
+//
+// Each reader takes the unread part of a record's text and answers how many bytes are left after its form. It hands the next reader a part of
+// the same text that starts in its middle.
+pub mod leaves;
+pub mod lines;
+pub mod pasts;
+pub mod patterns;
+pub mod responses;
+
+pub use leaves::Reading;
+pub use lines::Kind;
+pub use lines::head;
+pub use lines::is_event;
+pub use lines::line_kind;
