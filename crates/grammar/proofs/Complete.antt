@@ -1,21 +1,21 @@
 -- Each good form is read back from the tokens that it is spelled by, where what follows does not go on with it.
 -- Assumes nothing.
-use mathlib.Core.Path.{_≡_, refl, ap, ap₂, sym, _∙_, subst}
+use mathlib.Core.Path.{_≡_, refl, ap, sym, _∙_}
 use mathlib.Core.Bool.{Bool, true, false, cond}
 use mathlib.Core.List.{List, [], _∷_, _++_, append-assoc, append-nil, map as mapList}
 use Prim.Native.Nat.{ℕ, zero, suc, _+_, _-_, _*_, _<_, _≤_}
 use native.Mathlib.Omega.{arith}
-use lib.Dec.{eqb, leb}
+use lib.Dec.{eqb}
 use lib.ListN.{length, length-append}
 use borrow.Author.Tests.{eqb-true, eq-eqb}
 use Rattle.lexer.specs.Class.{among, classOf}
 use Rattle.lexer.specs.Words.{kindOf, same, nameLike, digitKind, roleW, underW, ruleW, anyW, notW, orW, passW, holdW, sendW, anewW}
 use Rattle.lexer.specs.Tokens.{Token, word, mark, other, tokens}
 use Rattle.lexer.proofs.TokenLaws.{tokens-length}
-use Rattle.grammar.specs.Parsed.{Parsed, none, some, map, bind, choose, markIs, wordIs, placeIs}
-use Rattle.grammar.specs.AsRead.{Item, exact, below, Items, close, starClose, item, Simple, anyEvent, items, Condition, term, or, Term, negate, simple, inside, Pattern, plain, bracketed, Past, only, either, Sequence, single, beside, Factor, starred, Base, pattern, nothing, group, Slot, named, place, Response, pass, hold, send, anew, Line, role, rule, event}
+use Rattle.grammar.specs.Parsed.{none, some, markIs, wordIs, placeIs}
+use Rattle.grammar.specs.AsRead.{Item, exact, below, Items, close, starClose, item, Simple, anyEvent, items, Condition, term, or, Term, negate, simple, inside, Pattern, plain, bracketed, Past, only, either, Sequence, single, beside, Factor, starred, Base, pattern, nothing, group, Slot, named, place, Response, pass, hold, send, anew, role, rule, event}
 use Rattle.grammar.specs.Spell.{spellItem, spellItems, spellSimple, spellCondition, spellTerm, spellPattern, spellStars, spellPast, spellSequence, spellFactor, spellBase, spellSlot, spellSlots, spellResponse, spellLine, spellTail}
-use Rattle.grammar.specs.Valid.{IsName, ValidItem, ValidItems, ValidSimple, ValidCondition, ValidTerm, ValidPattern, ValidPast, ValidSequence, ValidFactor, ValidBase, ValidSlot, ValidSlots, ValidResponse, ValidNames, ValidLine}
+use Rattle.grammar.specs.Valid.{ValidItem, ValidItems, ValidSimple, ValidCondition, ValidTerm, ValidPattern, ValidPast, ValidSequence, ValidFactor, ValidBase, ValidSlot, ValidSlots, ValidResponse, ValidNames, ValidLine}
 use Rattle.grammar.specs.Parser.{itemOf, openOf, itemsOf, simpleOf, conditionWith, termWith, conditionOf, termOf, patternOf, starsOf, afterStars, begins, pastWith, sequenceWith, factorWith, baseWith, pastOf, sequenceOf, factorOf, baseOf, slotOf, slotsOf, templateOf, responseOf, roleOf, headOf, tailOf, ruleOf, namesOf, eventOf, depth}
 
 abbrev NoMark : ℕ → List Token → Type 0

@@ -1,8 +1,8 @@
 -- Which texts are in the rule language, and that each has one reading.
 -- Assumes nothing.
 use mathlib.Core.Path.{_≡_, refl, ap, sym, _∙_}
-use mathlib.Core.Bool.{Bool, true, false}
-use mathlib.Core.List.{List, [], _∷_, _++_, append-nil}
+use mathlib.Core.Bool.{true}
+use mathlib.Core.List.{List, [], _∷_, append-nil}
 use mathlib.Core.Logic.{_↔_}
 use mathlib.Core.Option.{Option, none, some}
 use Prim.Native.Nat.{ℕ}
@@ -10,11 +10,11 @@ use native.Mathlib.Omega.{arith}
 use lib.ListN.{length}
 use Rattle.lexer.specs.Class.{classOf}
 use Rattle.lexer.specs.Words.{kindOf, same, nameLike, digitKind}
-use Rattle.lexer.specs.Tokens.{Token, word, tokens}
+use Rattle.lexer.specs.Tokens.{Token, tokens}
 use Rattle.grammar.specs.AsRead.{Line, role, rule, event}
 use Rattle.grammar.specs.Spell.{spellLine}
 use Rattle.grammar.specs.Valid.{ValidLine, ValidNames}
-use Rattle.grammar.specs.Parsed.{Parsed, none as failed, some as parsed, bind, wordIs, wholly}
+use Rattle.grammar.specs.Parsed.{Parsed, none as failed, some as parsed, wordIs, wholly}
 use Rattle.grammar.specs.Parser.{roleOf, headOf, ruleOf, eventOf, depth}
 use Rattle.grammar.specs.Lines.{Says, declares, happens, orElse, readLine, readEvent}
 use Rattle.grammar.specs.declared.lines.Kind.{Kind}

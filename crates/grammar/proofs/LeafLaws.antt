@@ -1,20 +1,18 @@
 -- The readers of one token: a law for each answer.
 -- Assumes nothing.
-use mathlib.Core.Path.{_≡_, refl, ap, sym, _∙_, subst}
+use mathlib.Core.Path.{_≡_, refl, sym, _∙_}
 use mathlib.Core.Bool.{Bool, true, false, _||_}
 use mathlib.Core.List.{List, [], _∷_}
-use Prim.Native.Nat.{ℕ, zero, suc, _<_, _≤_}
+use Prim.Native.Nat.{ℕ, _<_, _≤_}
 use native.Mathlib.Nat.{le-of-lt}
 use native.Mathlib.Omega.{arith}
-use lib.Dec.{eqb, leb}
-use lib.ListN.{length}
+use lib.Dec.{eqb}
 use borrow.Author.Tests.{eq-eqb, ne-eqb, le-leb, lt-leb}
 use Rattle.lexer.specs.Words.{kindOf}
 use Rattle.lexer.specs.Tokens.{Token, word, mark, other, tokens, last, Next}
 use Rattle.lexer.specs.declared.tokens.Lexeme.{Lexeme}
 use Rattle.lexer.specs.declared.tokens.Lexeme.the-variants.{End, Word, Mark, Other}
-use Rattle.grammar.specs.Parsed.{Parsed, none, some, markIs, wordIs, placeIs, isNone}
-use Rattle.lexer.specs.Class.{among}
+use Rattle.grammar.specs.Parsed.{Parsed, markIs, wordIs, placeIs, isNone}
 use Rattle.grammar.specs.Parser.{begins}
 use Rattle.grammar.specs.Answers.{Answers, Shorter, Follows}
 use Rattle.grammar.specs.declared.leaves.Reading.{Reading}

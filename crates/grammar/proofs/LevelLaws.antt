@@ -1,6 +1,6 @@
 -- The readers of the grammar: a law for each answer of each reader, from the answers of the readers that it calls.
 -- Assumes nothing.
-use mathlib.Core.Path.{_≡_, refl, ap, sym, _∙_, subst}
+use mathlib.Core.Path.{_≡_, refl, ap, sym, _∙_}
 use mathlib.Core.Bool.{Bool, true, false, cond}
 use mathlib.Core.List.{List, [], _∷_}
 use Prim.Native.Nat.{ℕ, zero, suc, _+_, _-_, _*_, _<_, _≤_}
@@ -10,9 +10,8 @@ use lib.Dec.{eqb}
 use lib.ListN.{length}
 use Rattle.lexer.specs.Tokens.{Token, word, mark, other, tokens, last}
 use Rattle.lexer.proofs.TokenLaws.{last-length, last-last, last-all}
-use Rattle.grammar.specs.Parsed.{Parsed, none, some, map, bind, choose, markIs, wordIs, placeIs}
-use Rattle.grammar.specs.AsRead.{Item, exact, below, Items, close, starClose, item, Simple, anyEvent, items, Condition, term, or, Term, negate, simple, inside, Pattern, plain, bracketed, Past, only, either, Sequence, single, beside, Factor, starred, Base, pattern, nothing, group, Slot, named, place, Response, pass, hold, send, anew, Line, role, rule}
-use Rattle.grammar.specs.Parser.{itemOf, openOf, itemsOf, simpleOf, conditionWith, termWith, conditionOf, termOf, patternOf, starsOf, afterStars, begins, pastWith, sequenceWith, factorWith, baseWith, pastOf, sequenceOf, factorOf, baseOf, slotOf, slotsOf, templateOf, responseOf, roleOf, headOf, tailOf, ruleOf, namesOf}
+use Rattle.grammar.specs.Parsed.{Parsed, none, some, markIs, wordIs, placeIs}
+use Rattle.grammar.specs.Parser.{itemOf, openOf, itemsOf, simpleOf, conditionWith, termWith, conditionOf, termOf, patternOf, afterStars, begins, pastWith, sequenceWith, factorWith, baseWith, pastOf, sequenceOf, factorOf, baseOf, slotOf, slotsOf, templateOf, responseOf, namesOf}
 use Rattle.grammar.specs.Answers.{Answers, Shorter, Follows, FollowsLevel, StarsPassed}
 use Rattle.grammar.specs.declared.leaves.Reading.{Reading}
 use Rattle.grammar.specs.declared.leaves.Reading.the-variants.{Left, Bad}

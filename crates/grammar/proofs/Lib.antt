@@ -5,3 +5,5 @@ pub mod Sound
 pub mod Complete
 pub mod Shapes
 pub mod Language
+pub mod RenameLaws
+pub mod Examples

@@ -1,7 +1,7 @@
 -- What each parser of lines gives is a line of its own kind.
 -- Assumes nothing.
-use mathlib.Core.Path.{_≡_, refl, sym}
-use mathlib.Core.Bool.{Bool, true, false}
+use mathlib.Core.Path.{_≡_, refl}
+use mathlib.Core.Bool.{true, false}
 use mathlib.Core.List.{List, [], _∷_}
 use mathlib.Core.Option as option
 use Prim.Native.Nat.{ℕ}
@@ -11,7 +11,7 @@ use Rattle.lexer.specs.Tokens.{Token, tokens}
 use Rattle.grammar.specs.AsRead.{Line, role, rule, event}
 use Rattle.grammar.specs.Parsed.{Parsed, none, some, map, bind, wordIs, isNone, whole, wholly}
 use Rattle.grammar.specs.Parser.{roleOf, headOf, pastOf, tailOf, ruleOf, namesOf, eventOf, depth}
-use Rattle.grammar.specs.Lines.{declares, happens, orElse, readLine, readEvent, isSome, kindOfLine}
+use Rattle.grammar.specs.Lines.{orElse, readLine, readEvent, isSome, kindOfLine}
 use Rattle.grammar.specs.declared.lines.Kind.{Kind}
 use Rattle.grammar.specs.declared.lines.Kind.the-variants.{Role, Rule, Neither}
 

@@ -8,14 +8,14 @@ use native.Mathlib.Omega.{arith}
 use lib.ListN.{getD}
 use lib.Dec.{eqb, leb}
 use borrow.Author.Tests.{eqb-true, leb-true}
-use Rattle.lexer.specs.Words.{kindOf, reserved, roleW, underW, ruleW, anyW, notW, orW, passW, holdW, sendW, anewW}
+use Rattle.lexer.specs.Words.{kindOf, reserved, roleW, underW, ruleW, notW, orW, sendW, anewW}
 use Rattle.lexer.specs.Tokens.{Token, word, mark, other}
 use Rattle.lexer.specs.Class.{within}
 use Rattle.lexer.proofs.KindLaws.{kind-word, kind-digit, and-left, and-right}
 use Rattle.grammar.specs.Parsed.{Parsed, none, some, map, bind, choose, markIs, wordIs, placeIs}
-use Rattle.grammar.specs.AsRead.{Item, exact, below, Items, close, starClose, item, Simple, anyEvent, items, Condition, term, or, Term, negate, simple, inside, Pattern, plain, bracketed, Past, only, either, Sequence, single, beside, Factor, starred, Base, pattern, nothing, group, Slot, named, place, Response, pass, hold, send, anew, Line, role, rule, event}
+use Rattle.grammar.specs.AsRead.{close, term, Pattern, only, single, beside, starred, nothing, Slot, Response, pass, hold}
 use Rattle.grammar.specs.Spell.{spellItem, spellItems, spellSimple, spellCondition, spellTerm, spellPattern, spellStars, spellPast, spellSequence, spellFactor, spellBase, spellSlot, spellSlots, spellResponse, spellLine, spellTail}
-use Rattle.grammar.specs.Valid.{IsName, ValidItem, ValidItems, ValidSimple, ValidCondition, ValidTerm, ValidPattern, ValidPast, ValidSequence, ValidFactor, ValidBase, ValidSlot, ValidSlots, ValidResponse, ValidNames, ValidLine}
+use Rattle.grammar.specs.Valid.{ValidItem, ValidItems, ValidSimple, ValidCondition, ValidTerm, ValidPattern, ValidPast, ValidSequence, ValidFactor, ValidBase, ValidSlot, ValidSlots, ValidResponse, ValidNames, ValidLine}
 use Rattle.grammar.specs.Parser.{itemOf, openOf, itemsOf, simpleOf, conditionWith, termWith, conditionOf, termOf, patternOf, starsOf, afterStars, begins, pastWith, sequenceWith, factorWith, baseWith, pastOf, sequenceOf, factorOf, baseOf, slotOf, slotsOf, templateOf, responseOf, roleOf, headOf, tailOf, ruleOf, namesOf, eventOf}
 
 -- what was read is good, and its tokens are those in front of the rest

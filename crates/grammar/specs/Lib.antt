@@ -9,3 +9,4 @@ pub mod Parsed
 pub mod Parser
 pub mod Answers
 pub mod Lines
+pub mod Text

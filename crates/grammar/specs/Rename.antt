@@ -1,7 +1,7 @@
 -- The same tree with other names: from names as read to ids, and back.
 -- Assumes nothing.
 use mathlib.Core.List.{[], _∷_}
-use Rattle.grammar.specs.Trees.{Item, exact, below, Items, close, starClose, item, Simple, anyEvent, items, Condition, term, or, Term, negate, simple, inside, Pattern, plain, bracketed, Past, only, either, Sequence, single, beside, Factor, starred, Base, pattern, nothing, group, Slot, named, place, Template, Response, pass, hold, send, anew}
+use Rattle.grammar.specs.Trees.{Item, exact, below, Items, close, starClose, item, Simple, anyEvent, items, Condition, term, or, Term, negate, simple, inside, Pattern, plain, bracketed, Past, only, either, Sequence, single, beside, Factor, starred, Base, pattern, nothing, group, named, place, Template, Response, pass, hold, send, anew}
 
 unfoldable pub mapItem : {M N : Type 0} → (M → N) → Item M → Item N
 mapItem f (exact w) = exact (f w)

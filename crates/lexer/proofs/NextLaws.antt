@@ -1,18 +1,17 @@
 -- The first token of a text, found by `next`: a law for each of its answers.
 -- Assumes nothing.
-use mathlib.Core.Path.{_≡_, refl, ap, sym, _∙_, subst}
+use mathlib.Core.Path.{_≡_, refl, ap, sym, _∙_}
 use mathlib.Core.Bool.{Bool, true, false, cond}
 use mathlib.Core.List.{List, [], _∷_}
-use Prim.Native.Nat.{ℕ, zero, suc, _+_, _-_, _<_, _≤_, zero-le}
+use Prim.Native.Nat.{ℕ, _+_, _-_, _≤_}
 use native.Mathlib.Omega.{arith}
-use lib.Dec.{eqb}
-use lib.ListN.{length, take, drop, getD, length-drop}
+use lib.ListN.{length, drop, getD, length-drop}
 use lib.Seq.{drop-drop}
 use borrow.Author.Tests.{eq-eqb, ne-eqb}
 use Rattle.lexer.specs.Class.{classOf, wordy, spacey, marky}
 use Rattle.lexer.specs.Run.{run, after}
 use Rattle.lexer.specs.Words.{kindOf}
-use Rattle.lexer.specs.Tokens.{Token, word, mark, other, tokens, tokensFrom, last, Next}
+use Rattle.lexer.specs.Tokens.{word, mark, other, tokens, tokensFrom, last, Next}
 use Rattle.lexer.specs.declared.tokens.Lexeme.the-variants.{End, Word, Mark, Other}
 use Rattle.lexer.proofs.RunLaws.{run-drop, run-length}
 use Rattle.lexer.proofs.TokenLaws.{tokens-after-spaces, tokens-mark, tokens-word, tokens-other, last-drop}

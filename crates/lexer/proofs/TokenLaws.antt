@@ -3,17 +3,15 @@
 use mathlib.Core.Path.{_≡_, refl, ap, sym, _∙_}
 use mathlib.Core.Bool.{Bool, true, false, cond}
 use mathlib.Core.List.{List, [], _∷_}
-use Prim.Native.Nat.{ℕ, zero, suc, _+_, _-_, _<_, _≤_, zero-le}
+use Prim.Native.Nat.{ℕ, suc, _+_, _-_, _≤_, zero-le}
 use native.Mathlib.Nat.{sub-self}
 use native.Mathlib.Omega.{arith}
-use lib.Dec.{eqb}
-use lib.ListN.{length, take, drop, getD, length-drop}
+use lib.ListN.{length, take, drop, length-drop}
 use lib.Seq.{drop-drop, take-all}
 use borrow.Author.Tests.{eqb-true}
 use Rattle.lexer.specs.Class.{classOf, wordy, spacey, marky}
 use Rattle.lexer.specs.Run.{run, after}
 use Rattle.lexer.specs.Tokens.{Token, word, mark, other, tokenAt, tokensFrom, tokens, last}
-use Rattle.lexer.proofs.RunLaws.{run-drop, run-length}
 
 -- spaces and marks are of no word, and marks are no spaces
 pub space-no-word : (b : ℕ) → spacey b ≡ true → wordy b ≡ false

@@ -1,7 +1,7 @@
 -- The longest run of elements that pass a test, and what is left after it.
 -- Assumes nothing.
 use Prim.Native.Nat.{ℕ}
-use mathlib.Core.Bool.{Bool, true, false, cond}
+use mathlib.Core.Bool.{Bool, cond}
 use mathlib.Core.List.{List, [], _∷_}
 
 unfoldable pub run : (ℕ → Bool) → List ℕ → List ℕ

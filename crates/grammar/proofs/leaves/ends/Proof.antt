@@ -1,6 +1,5 @@
 use mathlib.Core.Path.{sym}
 use mathlib.Core.Logic.{⊎-elim}
-use Prim.Native.Nat.{ℕ}
 use native.Mathlib.Omega.{arith}
 use Rattle.grammar.proofs.LeafLaws.{ends-yes, ends-no}
 use borrow.Author.Needs.{needs}

@@ -1,5 +1,4 @@
 use mathlib.Core.Logic.{⊎-elim}
-use Prim.Native.Nat.{ℕ}
 use native.Mathlib.Omega.{arith}
 use Rattle.grammar.proofs.LeafLaws.{place-yes, place-low, place-high, place-none}
 use borrow.Author.Needs.{needs}

@@ -1,4 +1,4 @@
-use mathlib.Core.Path.{_≡_, sym, _∙_}
+use mathlib.Core.Path.{sym, _∙_}
 use Rattle.grammar.proofs.AnswerLaws.{whole-left, whole-bad}
 use Rattle.grammar.proofs.Shapes.{event-whole}
 use borrow.Author.Needs.{needs}

@@ -1,4 +1,4 @@
-use mathlib.Core.Path.{_≡_, sym, _∙_}
+use mathlib.Core.Path.{sym, _∙_}
 use Rattle.grammar.proofs.Shapes.{kind-rule, kind-role, kind-neither}
 use borrow.Author.Needs.{needs}
 use Rattle.grammar.proofs.lines.line_kind.Statement.{statement}

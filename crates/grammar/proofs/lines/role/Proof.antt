@@ -1,5 +1,5 @@
 use Rattle.grammar.proofs.AnswerLaws.{chain, chain-bad, mapped}
-use Rattle.grammar.specs.Parser.{roleOf, headOf}
+use Rattle.grammar.specs.Parser.{roleOf}
 use borrow.Author.Needs.{needs}
 use Rattle.grammar.proofs.lines.role.Statement.{statement}
 use Rattle.grammar.proofs.lines.role.Tie as tie

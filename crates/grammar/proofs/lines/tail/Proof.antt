@@ -1,6 +1,6 @@
 use Rattle.grammar.proofs.LevelLaws.{part-shorter}
 use Rattle.grammar.proofs.AnswerLaws.{chain, chain-bad, mapped, at-depth, at-depths}
-use Rattle.grammar.specs.Parser.{tailOf, ruleOf, patternOf, pastOf}
+use Rattle.grammar.specs.Parser.{tailOf, patternOf}
 use native.Mathlib.Omega.{arith}
 use borrow.Author.Needs.{needs}
 use Rattle.grammar.proofs.lines.tail.Statement.{statement}

@@ -1,4 +1,3 @@
-use mathlib.Core.Path.{_≡_, refl, ap, sym, _∙_, subst}
 use Rattle.grammar.proofs.LevelLaws.{stars-stop, stars-more, part-shorter}
 use borrow.Author.Needs.{needs}
 use native.Mathlib.Omega.{arith}

@@ -1,13 +1,8 @@
-use mathlib.Core.Path.{_≡_, refl, ap, sym, _∙_, subst}
-use Prim.Native.Nat.{ℕ, _-_, _≤_}
-use mathlib.Core.List.{List}
+use mathlib.Core.Path.{ap, sym, _∙_}
+use Prim.Native.Nat.{_-_}
 use native.Mathlib.Omega.{arith}
 use lib.ListN.{length}
 use Rattle.lexer.specs.Class.{wordy}
-use Rattle.lexer.specs.Run.{run}
-use Rattle.lexer.specs.Words.{kindOf}
-use Rattle.lexer.specs.Tokens.{Next}
-use Rattle.lexer.specs.declared.tokens.Lexeme.the-variants.{Word}
 use Rattle.lexer.proofs.RunLaws.{run-length}
 use Rattle.lexer.proofs.NextLaws.{next-end, next-mark, next-other, next-word}
 use borrow.Author.Needs.{needs}

@@ -1,5 +1,4 @@
-use Prim.Native.Nat.{ℕ, _-_, _≤_, _<_}
-use lib.ListN.{getD}
+use Prim.Native.Nat.{_-_}
 use Rattle.lexer.specs.Words.{digitKind}
 use borrow.Author.Tests.{lt-leb, le-leb, eq-eqb, ne-eqb}
 use borrow.Author.Needs.{needs}

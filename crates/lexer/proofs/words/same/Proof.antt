@@ -1,10 +1,7 @@
-use mathlib.Core.Path.{_≡_, refl, ap, sym, _∙_}
-use mathlib.Core.Bool.{Bool, true, false}
-use Prim.Native.Nat.{ℕ, suc, _+_, _-_, _≤_, _<_}
+use mathlib.Core.Path.{_≡_, sym, _∙_}
+use Prim.Native.Nat.{_-_, _≤_}
 use native.Mathlib.Omega.{arith}
-use lib.ListN.{length, take, drop, getD, length-drop}
-use Rattle.lexer.specs.Class.{classOf, wordy, spacey}
-use Rattle.lexer.specs.Run.{run, after}
+use lib.ListN.{length, drop}
 use borrow.Author.Needs.{needs}
 use Rattle.lexer.specs.Words.{same}
 use Rattle.lexer.proofs.SameLaws.{same-more-one, same-stop, same-end, same-lengths}

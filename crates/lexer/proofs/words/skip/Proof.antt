@@ -1,11 +1,6 @@
-use mathlib.Core.Path.{_≡_, refl, ap, sym, _∙_}
-use mathlib.Core.Bool.{Bool, true, false}
-use Prim.Native.Nat.{ℕ, suc, _+_, _-_, _≤_, _<_}
+use Prim.Native.Nat.{_-_}
 use native.Mathlib.Omega.{arith}
-use lib.ListN.{length, take, drop, getD, length-drop}
-use Rattle.lexer.specs.Class.{classOf, wordy, spacey}
-use Rattle.lexer.specs.Run.{run, after}
-use lib.Seq.{take-all}
+use Rattle.lexer.specs.Class.{spacey}
 use Rattle.lexer.proofs.RunLaws.{run-length, after-part}
 use borrow.Author.Needs.{needs}
 use Rattle.lexer.proofs.words.skip.Statement.{statement}

@@ -1,10 +1,7 @@
-use mathlib.Core.Path.{_≡_, refl, ap, sym, _∙_}
-use mathlib.Core.Bool.{Bool, true, false}
-use Prim.Native.Nat.{ℕ, suc, _+_, _-_, _≤_, _<_}
+use mathlib.Core.Path.{sym}
+use Prim.Native.Nat.{_-_}
 use native.Mathlib.Omega.{arith}
-use lib.ListN.{length, take, drop, getD, length-drop}
-use Rattle.lexer.specs.Class.{classOf, wordy, spacey}
-use Rattle.lexer.specs.Run.{run, after}
+use Rattle.lexer.specs.Class.{wordy}
 use lib.Seq.{length-take-le}
 use Rattle.lexer.proofs.RunLaws.{run-length, run-take}
 use borrow.Author.Needs.{needs}

@@ -1,11 +1,9 @@
-use borrow.Author.Tests.{eq-eqb, ne-eqb}
 use borrow.Author.Needs.{needs}
 use mathlib.Core.Path.{_≡_, sym, _∙_}
-use Prim.Native.Nat.{ℕ, suc, _+_, _-_, _≤_}
-use native.Mathlib.Numerals.{add-one}
+use Prim.Native.Nat.{_+_, _-_, _≤_}
 use native.Mathlib.Omega.{arith}
-use lib.ListN.{length, drop, getD}
-use Rattle.lexer.specs.Class.{wordy, spacey}
+use lib.ListN.{length, drop}
+use Rattle.lexer.specs.Class.{wordy}
 use Rattle.lexer.specs.Run.{run}
 use Rattle.lexer.proofs.RunLaws.{run-more-one, run-stop, run-end}
 use Rattle.lexer.proofs.words.word_length.Statement.{statement}
