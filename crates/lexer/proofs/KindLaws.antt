@@ -27,7 +27,7 @@ same-true (x ∷ a) (y ∷ k) e = go (eqb x y) refl e (λ h. same-true a k h)
     go false h e ih = let z : _≡_ {A = ℕ} 0 1 = cc in absurd (omega arith)
 
 -- a place in a list of words is counted from i on, or is the other number
-place-low : (i : ℕ) (ks : List (List ℕ)) (w : List ℕ) (d j : ℕ) → j < i → placeFrom i ks w d ≡ j → d ≡ j
+pub place-low : (i : ℕ) (ks : List (List ℕ)) (w : List ℕ) (d j : ℕ) → j < i → placeFrom i ks w d ≡ j → d ≡ j
 place-low i [] w d j h e = e
 place-low i (k ∷ ks) w d j h e = go (same w k) (λ e₁. place-low (suc i) ks w d j (omega arith) e₁) e
   where

@@ -11,7 +11,7 @@ use borrow.Author.Tests.{eq-eqb, ne-eqb}
 use Rattle.lexer.specs.Class.{classOf, wordy, spacey, marky}
 use Rattle.lexer.specs.Run.{run, after}
 use Rattle.lexer.specs.Words.{kindOf}
-use Rattle.lexer.specs.Tokens.{word, mark, other, tokens, tokensFrom, last, Next}
+use Rattle.lexer.specs.Tokens.{Token, word, mark, other, tokens, tokensFrom, last, firstWord, Next}
 use Rattle.lexer.specs.declared.tokens.Lexeme.the-variants.{End, Word, Mark, Other}
 use Rattle.lexer.proofs.RunLaws.{run-drop, run-length}
 use Rattle.lexer.proofs.TokenLaws.{tokens-after-spaces, tokens-mark, tokens-word, tokens-other, last-drop}
@@ -93,3 +93,23 @@ module _ (s : List ℕ) where
           ap (run wordy) (sym e),
         ),
       )
+
+first-of : (b : ℕ) (u w : List ℕ) (ts : List Token) → spacey b ≡ false → tokens (b ∷ u) ≡ word w ∷ ts → run wordy (b ∷ u) ≡ w
+first-of b u w ts p e = go (wordy b) refl (marky b) refl
+  where
+    go : (q : Bool) → wordy b ≡ q → (m : Bool) → marky b ≡ m → run wordy (b ∷ u) ≡ w
+    go true q m h = let t = tokens-word b u q in cc
+    go false q true h = let t = tokens-mark b u h in let z : _≡_ {A = ℕ} 0 1 = cc in absurd (omega arith)
+    go false q false h = let t = tokens-other b u h q p in let z : _≡_ {A = ℕ} 0 1 = cc in absurd (omega arith)
+
+no-tokens : tokens [] ≡ []
+unfolding tokensFrom
+no-tokens = refl
+
+-- Where a text's first token is a word, it is the word that the text begins with after the spaces in front.
+pub first-word-is : (s w : List ℕ) (ts : List Token) → tokens s ≡ word w ∷ ts → firstWord s ≡ w
+first-word-is s w ts e = go (after spacey s) refl (tokens-after-spaces s ∙ e)
+  where
+    go : (t : List ℕ) → t ≡ after spacey s → tokens t ≡ word w ∷ ts → run wordy t ≡ w
+    go [] q h = let n = no-tokens in let z : _≡_ {A = ℕ} 0 1 = cc in absurd (omega arith)
+    go (b ∷ u) q h = first-of b u w ts (head-after spacey s b u q) h

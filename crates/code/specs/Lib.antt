@@ -1,0 +1,5 @@
+pub mod Code
+pub mod Trees
+pub mod Encoded
+pub mod Count
+pub mod Lines

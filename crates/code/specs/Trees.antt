@@ -1,0 +1,66 @@
+-- The code of each form of a rule, with an id for each name: how its tree is spelled, one byte a token.
+-- Assumes nothing.
+use mathlib.Core.List.{List, [], _∷_, _++_}
+use Prim.Native.Nat.{ℕ, _+_}
+use lib.ListN.{replicate}
+use Rattle.grammar.specs.Trees.{Items, close, starClose, item, exact, below, Simple, anyEvent, items, Condition, term, or, Term, negate, simple, inside, Pattern, plain, bracketed, Past, only, either, Sequence, single, beside, Factor, starred, Base, pattern, nothing, group, named, place, Template, Response, pass, hold, send, anew}
+
+unfoldable pub codeItems : Items ℕ → List ℕ
+codeItems close = 62 ∷ []
+codeItems starClose = 42 ∷ 62 ∷ []
+codeItems (item (exact p) xs) = (128 + p) ∷ codeItems xs
+codeItems (item (below p) xs) = 43 ∷ (128 + p) ∷ codeItems xs
+
+unfoldable pub codeSimple : Simple ℕ → List ℕ
+codeSimple anyEvent = 97 ∷ []
+codeSimple (items xs) = 60 ∷ codeItems xs
+
+unfoldable mutual
+  pub codeCondition : Condition ℕ → List ℕ
+  codeCondition (term t) = codeTerm t
+  codeCondition (or t c) = codeTerm t ++ (111 ∷ codeCondition c)
+
+  pub codeTerm : Term ℕ → List ℕ
+  codeTerm (negate t) = 110 ∷ codeTerm t
+  codeTerm (simple p) = codeSimple p
+  codeTerm (inside c) = 40 ∷ (codeCondition c ++ (41 ∷ []))
+
+unfoldable pub codePattern : Pattern ℕ → List ℕ
+codePattern (plain p) = codeSimple p
+codePattern (bracketed c) = 91 ∷ (codeCondition c ++ (93 ∷ []))
+
+unfoldable mutual
+  pub codePast : Past ℕ → List ℕ
+  codePast (only q) = codeSequence q
+  codePast (either q p) = codeSequence q ++ (43 ∷ codePast p)
+
+  pub codeSequence : Sequence ℕ → List ℕ
+  codeSequence (single c) = codeFactor c
+  codeSequence (beside c q) = codeFactor c ++ codeSequence q
+
+  pub codeFactor : Factor ℕ → List ℕ
+  codeFactor (starred b n) = codeBase b ++ replicate n 42
+
+  pub codeBase : Base ℕ → List ℕ
+  codeBase (pattern p) = codePattern p
+  codeBase nothing = 40 ∷ 41 ∷ []
+  codeBase (group p) = 40 ∷ (codePast p ++ (41 ∷ []))
+
+unfoldable pub codeSlots : Template ℕ → List ℕ
+codeSlots [] = 62 ∷ []
+codeSlots (named p ∷ xs) = (128 + p) ∷ codeSlots xs
+codeSlots (place n ∷ xs) = 35 ∷ (n + 48) ∷ codeSlots xs
+
+unfoldable pub codeResponse : Response ℕ → List ℕ
+codeResponse pass = 112 ∷ []
+codeResponse hold = 104 ∷ []
+codeResponse (send xs) = 115 ∷ 60 ∷ codeSlots xs
+codeResponse (anew xs) = 119 ∷ 60 ∷ codeSlots xs
+
+-- what follows the past: ; the trigger ; the response
+unfoldable pub codeTail : Pattern ℕ → Response ℕ → List ℕ
+codeTail t x = 59 ∷ (codePattern t ++ (59 ∷ codeResponse x))
+
+-- the code of a rule: its past, its trigger and its response
+unfoldable pub codeRule : Past ℕ → Pattern ℕ → Response ℕ → List ℕ
+codeRule p t x = codePast p ++ codeTail t x

@@ -1,0 +1,138 @@
+// Lines read to ids: what the monitor needs of a text that is in the language.
+use crate::count::LIMIT;
+use crate::count::patterns;
+use crate::encode::Encoded;
+use crate::encode::encode;
+use lexer::Lexeme;
+use lexer::first_word;
+use lexer::next;
+use lexer::rest;
+ghost use mathlib.Core.Path.{_≡_};
+ghost use Rattle.lexer.specs.Tokens.{firstWord};
+ghost use Rattle.names.specs.Name.{packed};
+ghost use Prim.Native.Nat.{_-_, _≤_};
+ghost use Rattle.code.specs.Lines.{AfterFirst, FewRead, RuleRead, RoleRead, EventIn, EventRead};
+
+// A rule line: its name, its code after `rule NAME :`, and whether its past has few enough patterns.
+pub struct RuleLine {
+    pub name: u64,
+    pub fits: bool,
+    pub body: Encoded,
+}
+
+// A role line: its name, and its parent's place among the names held, or how many are held.
+pub struct RoleLine {
+    pub name: u64,
+    pub parent: usize,
+}
+
+// An event (document 01: act): the ids of its roles, and whether one is not held.
+pub struct EventLine {
+    pub len: usize,
+    pub roles: [u8; 4],
+    pub unknown: bool,
+}
+
+// What is left after the first token.
+fn after_first(s: &[u8]) -> &[u8]
+    ensures { λ r. ⌜ AfterFirst (now (s .entry)) (now r) ⌝ }
+{
+    match next(s) {
+        Lexeme::End => s,
+        Lexeme::Word(k, n) => rest(s, n),
+        Lexeme::Mark(b, n) => rest(s, n),
+        Lexeme::Other(b, n) => rest(s, n),
+    }
+}
+
+// The word in front, packed.
+fn leading(s: &[u8]) -> u64
+    ensures { λ r. ⌜ r ≡ packed (firstWord (now (s .entry))) ⌝ }
+{
+    names::pack(first_word(s))
+}
+
+// Whether a rule's past has few enough patterns. Refusal 7 stands here alone.
+fn few(body: Encoded) -> bool
+    ensures { λ r. ⌜ FewRead body r ⌝ }
+{
+    let code = body.code;
+    let len = body.len;
+    if 126 < len {
+        return false;
+    }
+    patterns(&code[..len]) <= LIMIT
+}
+
+// A rule line, read: the name after the first word, and the code of what stands after the name and the colon.
+pub fn rule_line(text: &[u8], names: &[u64]) -> RuleLine
+    ensures { λ r. ⌜ RuleRead (now (names .entry)) (now (text .entry)) r ⌝ }
+{
+    let named = after_first(text);
+    let name = leading(named);
+    let colon = after_first(named);
+    let body = encode(after_first(colon), names);
+    let fits = few(body);
+    RuleLine {
+        name: name,
+        fits: fits,
+        body: body,
+    }
+}
+
+// A role line, read: the name after the first word, and the name after the third.
+pub fn role_line(text: &[u8], names: &[u64]) -> RoleLine
+    ensures { λ r. ⌜ RoleRead (now (names .entry)) (now (text .entry)) r ⌝ }
+{
+    let named = after_first(text);
+    let name = leading(named);
+    let under = after_first(named);
+    let parent = names::find(names, leading(after_first(under)));
+    RoleLine {
+        name: name,
+        parent: parent,
+    }
+}
+
+// The id in a name's byte of code.
+fn id_in(b: u8) -> u8
+    ensures { λ r. ⌜ r ≡ b - 128 ⌝ }
+{
+    if b < 128 {
+        return 0;
+    }
+    b - 128
+}
+
+// The event that a code holds: at most four roles.
+fn event_in(body: Encoded) -> EventLine
+    ensures { λ r. ⌜ EventIn body r ⌝ }
+{
+    let code = body.code;
+    let roles = [
+        id_in(code[0]),
+        id_in(code[1]),
+        id_in(code[2]),
+        id_in(code[3]),
+    ];
+    let len = body.len;
+    if 4 < len {
+        return EventLine {
+            len: 4,
+            roles: roles,
+            unknown: body.unknown,
+        };
+    }
+    EventLine {
+        len: len,
+        roles: roles,
+        unknown: body.unknown,
+    }
+}
+
+// An event's text, read.
+pub fn event_line(text: &[u8], names: &[u64]) -> EventLine
+    ensures { λ r. ⌜ EventRead (now (names .entry)) (now (text .entry)) r ⌝ }
+{
+    event_in(encode(text, names))
+}
