@@ -13,7 +13,7 @@ use Rattle.lexer.proofs.TokenLaws.{last-all, last-last, last-length}
 use Rattle.code.specs.Code.{codes, anyUnheld}
 use Rattle.code.specs.Encoded.{Few, Front, Encodes}
 use Rattle.code.specs.declared.encode.Piece.the-variants.{End, Code}
-use Rattle.code.proofs.Bools.{or-assoc, or-false}
+use Rattle.lexer.proofs.Bools.{or-assoc, or-false}
 
 -- so many bytes of code are written, and so many bytes of text are left
 pub record Going (ns s code : List ℕ) (len left : ℕ) (unknown : Bool) : Type 0 where

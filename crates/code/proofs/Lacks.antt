@@ -15,7 +15,7 @@ use Rattle.grammar.specs.AsRead.{exact, below, Items, close, starClose, item, a
 use Rattle.grammar.specs.Spell.{spellItem, spellItems, spellSimple, spellCondition, spellTerm, spellPattern, spellStars, spellPast, spellSequence, spellFactor, spellBase, spellSlot, spellSlots, spellResponse, spellTail}
 use Rattle.grammar.specs.Valid.{ValidItem, ValidItems, ValidSimple, ValidCondition, ValidTerm, ValidPattern, ValidPast, ValidSequence, ValidFactor, ValidBase, ValidSlot, ValidSlots, ValidResponse, ValidNames}
 use Rattle.code.specs.Lines.{lacks}
-use Rattle.code.proofs.Bools.{or-assoc, or-false}
+use Rattle.lexer.proofs.Bools.{or-assoc, or-false}
 
 module _ (ns : List ℕ) where
   abbrev missing : List Token → Bool

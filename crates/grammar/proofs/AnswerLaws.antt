@@ -3,13 +3,13 @@
 use mathlib.Core.Path.{_≡_, refl, ap, sym, _∙_, subst}
 use mathlib.Core.Bool.{Bool, true, false, cond}
 use mathlib.Core.List.{List}
-use Prim.Native.Nat.{ℕ, _+_, _-_, _*_, _<_, _≤_}
+use Prim.Native.Nat.{ℕ, _≤_}
 use native.Mathlib.Omega.{arith}
 use lib.ListN.{length}
 use Rattle.lexer.specs.Tokens.{Token, tokens, last}
 use Rattle.lexer.proofs.TokenLaws.{last-length, last-last, last-all}
 use Rattle.grammar.specs.Parsed.{Parsed, none, some, map, bind, choose, isNone, whole}
-use Rattle.grammar.specs.Answers.{Answers, Shorter, Follows, FollowsLevel}
+use Rattle.grammar.specs.Answers.{Answers}
 use Rattle.grammar.specs.declared.leaves.Reading.{Reading}
 use Rattle.grammar.specs.declared.leaves.Reading.the-variants.{Left, Bad}
 
@@ -71,15 +71,6 @@ all-left a n s t h e =
     let l : length t ≡ n = ap length e ∙ last-length n s h in
     (omega arith, ap tokens (subst (λ (k : ℕ). last k t ≡ t) l (last-all t)))
 
--- shorter than a part is shorter than the whole
-pub shorter-part : (s t : List ℕ) (n : ℕ) (r : Reading) → Shorter s (Left n) → t ≡ last n s → Shorter t r → Shorter s r
-unfolding Shorter
-shorter-part s t n (Left m) h e g =
-    let l : length (last n s) ≡ n = last-length n s (omega arith) in
-    let q : length t ≡ length (last n s) = ap length e in
-    omega arith
-shorter-part s t n Bad h e g = tt
-
 -- the rest after all of it
 pub everything : {A : Type 0} (a : A) (s : List ℕ) → Answers (some a (tokens s)) s (Left (length s))
 unfolding Answers
@@ -100,32 +91,3 @@ pub answer-le : {A : Type 0} (p : Parsed A) (s : List ℕ) (n : ℕ) → Answers
 unfolding Answers
 answer-le none s n h = absurd h
 answer-le (some a ts) s n h = h .0
-
--- one reader after another
-
-pub chain-bad : {A B : Type 0} (p : List Token → Parsed A) (k : A → List Token → Parsed B) (s : List ℕ) → Follows p s Bad → Follows (λ ts. bind (p ts) k) s Bad
-unfolding Shorter
-chain-bad p k s h = record { shorter = tt; answers = bind-bad (p (tokens s)) k s (h .answers) }
-
-some-value : {A : Type 0} (C : Type 0) (p : Parsed A) (s : List ℕ) (n : ℕ) → Answers p s (Left n) → (A → C) → C
-unfolding Answers
-some-value C none s n h g = absurd h
-some-value C (some a ts) s n h g = g a
-
-pub chain : {A B : Type 0} (p : List Token → Parsed A) (k : A → List Token → Parsed B) (s : List ℕ) (n : ℕ) (t : List ℕ) (r : Reading)
-    → Follows p s (Left n) → t ≡ last n s → ((a : A) → Follows (k a) t r) → Follows (λ ts. bind (p ts) k) s r
-chain p k s n t r h e g = record {
-  shorter = shorter-part s t n r (h .shorter) e (some-value (Shorter t r) (p (tokens s)) s n (h .answers) (λ a. g a .shorter));
-  answers = bind-left (p (tokens s)) k s n t r (h .answers) e (λ a. g a .answers);
-}
-
-pub mapped : {A B : Type 0} (f : A → B) (p : List Token → Parsed A) (s : List ℕ) (r : Reading) → Follows p s r → Follows (λ ts. map f (p ts)) s r
-mapped f p s r h = record { shorter = h .shorter; answers = map-answers f (p (tokens s)) s r (h .answers) }
-
--- a level's reader at one depth
-pub at-depth : {A : Type 0} (l : ℕ) (parse : ℕ → List Token → Parsed A) (s : List ℕ) (r : Reading) (f : ℕ) → FollowsLevel l parse s r → length s * 8 + l < f → Follows (parse f) s r
-at-depth l parse s r f h q = record { shorter = h .shorter; answers = h .answers f q }
-
--- a level's reader from its readers at each depth
-pub at-depths : {A : Type 0} (l : ℕ) (parse : ℕ → List Token → Parsed A) (s : List ℕ) (r : Reading) → ((f : ℕ) → length s * 8 + l < f → Follows (parse f) s r) → FollowsLevel l parse s r
-at-depths l parse s r g = record { shorter = g (length s * 8 + l + 1) (omega arith) .shorter; answers = λ f q. g f q .answers }

@@ -19,8 +19,9 @@ use Rattle.grammar.specs.Parser.{roleOf, headOf, ruleOf, eventOf, depth}
 use Rattle.grammar.specs.Lines.{Says, declares, happens, orElse, readLine, readEvent}
 use Rattle.grammar.specs.declared.lines.Kind.{Kind}
 use Rattle.grammar.specs.declared.lines.Kind.the-variants.{Role, Rule, Neither}
-use Rattle.grammar.proofs.Sound.{Spells, rule-sound, role-sound, event-sound}
-use Rattle.grammar.proofs.Complete.{rule-read, role-read, event-read}
+use Rattle.grammar.proofs.Spells.{Spells}
+use Rattle.grammar.proofs.SoundLines.{rule-sound, role-sound, event-sound}
+use Rattle.grammar.proofs.CompleteLines.{rule-read, role-read, event-read}
 use Rattle.grammar.proofs.Shapes.{Shaped, kindOf as kindOfTree, rule-shaped, role-shaped, event-shaped}
 
 kind-declares : (l : Line) (k : Kind) → kindOfTree l ≡ k → (k ≡ Neither → ⊥) → declares l ≡ true

@@ -1,4 +1,4 @@
--- The parsers of the rule language, over tokens. `taken-exactly` of proofs/Language.antt ties them to the spelling of trees,
+-- The parsers of the rule language, over tokens. `line-taken` and `event-taken` of proofs/Language.antt tie them to the spelling of trees,
 -- so that a reader of the promises need not believe them.
 -- Assumes nothing.
 use Prim.Native.Nat.{ℕ, zero, suc, _+_, _*_}

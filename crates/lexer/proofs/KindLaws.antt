@@ -9,11 +9,8 @@ use native.Mathlib.Omega.{arith}
 use lib.Dec.{eqb, leb}
 use borrow.Author.Tests.{eqb-true, leb-true}
 use Rattle.lexer.specs.Class.{within}
+use Rattle.lexer.proofs.Bools.{and-left, and-right}
 use Rattle.lexer.specs.Words.{same, nameLike, digitKind, kindOf, anyW, reserved, placeFrom}
-
-pub and-left : (a b : Bool) → a && b ≡ true → a ≡ true
-and-left true b e = refl
-and-left false b e = e
 
 pub same-true : (a k : List ℕ) → same a k ≡ true → a ≡ k
 unfolding same
@@ -78,10 +75,6 @@ place-high i (k ∷ ks) w d h = go (same w k) h (place-high (suc i) ks w d)
         → (suc i + length ks ≤ placeFrom (suc i) ks w d → placeFrom (suc i) ks w d ≡ d) → cond q i (placeFrom (suc i) ks w d) ≡ d
     go true h ih = absurd (omega arith)
     go false h ih = ih (omega arith)
-
-pub and-right : (a b : Bool) → a && b ≡ true → b ≡ true
-and-right true b e = e
-and-right false b e = let z : _≡_ {A = ℕ} 0 1 = cc in absurd (omega arith)
 
 one-long : (w : List ℕ) → length w ≡ 1 → w ≡ getD w 0 0 ∷ []
 one-long [] e = absurd (omega arith)

@@ -1,3 +1,4 @@
+pub mod Bools
 pub mod Table
 pub mod ClassTable
 pub mod RunLaws

@@ -10,18 +10,15 @@ use lib.ListN.{length, getD}
 use borrow.Author.Tests.{eqb-true, eqb-false, leb-true}
 use Rattle.lexer.specs.Class.{classOf, wordy, within, among, marks}
 use Rattle.lexer.specs.Words.{kindOf, nameLike, digitKind, nameK, reserved}
+use Rattle.lexer.proofs.Bools.{and-left, and-right}
 use Rattle.lexer.proofs.KindLaws.{place-low}
 use Rattle.lexer.proofs.WordLaws.{Wordy}
 use Rattle.names.specs.Name.{columnOf, packed}
 use Rattle.names.specs.Shape.{Packable, NameShape}
 use Rattle.names.proofs.ColumnLaws.{packed-same}
 
-both-true : (a b : Bool) → a && b ≡ true → (a ≡ true) × (b ≡ true)
-both-true true b e = (refl, e)
-both-true false b e = let z : _≡_ {A = ℕ} 0 1 = cc in absurd (omega arith)
-
 within-true : (lo hi b : ℕ) → within lo hi b ≡ true → (lo ≤ b) × (b ≤ hi)
-within-true lo hi b e = let t = both-true (leb lo b) (leb b hi) e in (leb-true lo b (t .0), leb-true b hi (t .1))
+within-true lo hi b e = (leb-true lo b (and-left (leb lo b) (leb b hi) e), leb-true b hi (and-right (leb lo b) (leb b hi) e))
 
 -- a byte of a word is a byte, and no space
 wordy-byte : (b : ℕ) → wordy b ≡ true → (b < 256) × (b ≡ 32 → ⊥)
@@ -68,7 +65,7 @@ name-shape w e = go (nameLike w) refl (place-low 1 reserved w (cond (nameLike w)
   where
     go : (q : Bool) → nameLike w ≡ q → cond q 0 (digitKind w) ≡ 0 → NameShape w
     go true h e =
-        let t = both-true (within 1 8 (length w)) (eqb (classOf (getD w 0 0)) 2) h in
+        let t : (within 1 8 (length w) ≡ true) × (eqb (classOf (getD w 0 0)) 2 ≡ true) = (and-left (within 1 8 (length w)) (eqb (classOf (getD w 0 0)) 2) h, and-right (within 1 8 (length w)) (eqb (classOf (getD w 0 0)) 2) h) in
         let l = within-true 1 8 (length w) (t .0) in
         record { least = l .0; most = l .1; letter = eqb-true (classOf (getD w 0 0)) 2 (t .1) }
     go false h e = absurd (digit-no-name w e)

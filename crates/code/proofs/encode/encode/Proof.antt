@@ -2,7 +2,7 @@
 -- Assumes nothing.
 use mathlib.Core.Path.{refl}
 use borrow.Author.Needs.{needs}
-use Rattle.code.proofs.Bools.{or-true, or-none}
+use Rattle.lexer.proofs.Bools.{or-right, or-none}
 use Rattle.code.proofs.EncodeLaws.{Going, going-start, going-shorter, going-more, going-end, going-full}
 use Rattle.code.proofs.encode.encode.Statement.{statement}
 use Rattle.code.proofs.encode.encode.Tie as tie
@@ -38,7 +38,7 @@ loop-again c =
     let k = c .before .before in
     let r = k .before .before .before .before in
     going-more _ _ _ _ _ _ (r .before .loop .inv) _ _ _ _ (rw (k .before .c .given .1, r .rest .ensures) at (k .before .before .before .front .ensures))
-    (c .before .if1 .left) (or-true (r .before .loop .unknown) _ (c .if2 .taken))
+    (c .before .if1 .left) (or-right (r .before .loop .unknown) _ (c .if2 .taken))
 
 loop-less-2 : tie.Need-loop-less-2 Inv-loop μ-loop
 loop-less-2 c =

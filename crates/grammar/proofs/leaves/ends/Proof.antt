@@ -1,3 +1,4 @@
+-- `ends` answers whether no token is left.
 use mathlib.Core.Path.{sym}
 use mathlib.Core.Logic.{⊎-elim}
 use native.Mathlib.Omega.{arith}

@@ -1,3 +1,4 @@
+-- `mark_at` answers as the parser of one mark does: that mark, another mark, or no mark.
 use mathlib.Core.Logic.{⊎-elim}
 use native.Mathlib.Omega.{arith}
 use Rattle.grammar.proofs.LeafLaws.{mark-yes, mark-no, mark-none}

@@ -1,3 +1,4 @@
+-- `place_at` answers as the parser of a place does: a digit from 1 to 4, a word of a lower or a higher kind, or no word.
 use mathlib.Core.Logic.{⊎-elim}
 use native.Mathlib.Omega.{arith}
 use Rattle.grammar.proofs.LeafLaws.{place-yes, place-low, place-high, place-none}

@@ -1,3 +1,4 @@
+-- `word_at` answers as the parser of one word does: a word of that kind, of another kind, or no word.
 use mathlib.Core.Logic.{⊎-elim}
 use native.Mathlib.Omega.{arith}
 use Rattle.grammar.proofs.LeafLaws.{word-yes, word-no, word-none}

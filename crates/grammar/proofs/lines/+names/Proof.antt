@@ -1,4 +1,5 @@
-use Rattle.grammar.proofs.LevelLaws.{names-none, names-more, names-stop}
+-- `names` answers as the parser of at most k names does. What falls is k.
+use Rattle.grammar.proofs.LevelLines.{names-none, names-more, names-stop}
 use native.Mathlib.Omega.{arith}
 use borrow.Author.Needs.{needs}
 use Prim.Native.Nat.{ℕ, _<_}
@@ -27,9 +28,6 @@ names-calls t = (word-at-reads.Asked, word-at-reads.Learnt, rest-reads.Asked, re
 names-returns : (t : ℕ) → names-lts.Need-returns (names-calls t) (names-at t) names.Post
 names-returns t c = names-none _ _ (c .if1 .taken)
 
-names-names-requires : (t : ℕ) → names-lts.Need-names-requires (names-calls t) (names-at t) names.Post
-names-names-requires t c κs = omega arith
-
 names-returns-2 : (t : ℕ) → names-lts.Need-returns-2 (names-calls t) (names-at t) names.Post
 names-returns-2 t c =
     let k = c .before .before in
@@ -41,11 +39,6 @@ names-returns-3 t c = names-stop _ _ (c .before .before .before .if1 .left) (rw 
 pub +names-spec : {M : Type 1} → statement M
 +names-spec = close μ-names λ t. names-lts.spec (names-calls t) (names-at t) names.Post
     (names-returns t)
-    (λ c κs. search needs)
-    (λ c. search needs)
-    (λ c κs. search needs)
-    (λ c. search needs)
-    (names-names-requires t)
-    (λ c. search needs)
+    (λ c κs. search needs) (λ c. search needs) (λ c κs. search needs) (λ c. search needs) (λ c κs. omega arith) (λ c. search needs)
     (names-returns-2 t)
     (names-returns-3 t)

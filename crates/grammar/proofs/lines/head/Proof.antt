@@ -1,4 +1,5 @@
-use Rattle.grammar.proofs.AnswerLaws.{chain, chain-bad, mapped}
+-- `head` answers as the parser of a rule line's head does, one reader after another.
+use Rattle.grammar.proofs.LevelLaws.{chain, chain-bad, mapped}
 use Rattle.grammar.specs.Parser.{headOf}
 use borrow.Author.Needs.{needs}
 use Rattle.grammar.proofs.lines.head.Statement.{statement}
@@ -25,15 +26,9 @@ pub head-spec : {M : Type 1} → statement M
 head-spec =
     tie.close
     (tie.spec
-    (λ c κs. search needs)
-    (λ c. search needs)
-    (λ c. search needs)
+    (λ c κs. search needs) (λ c. search needs) (λ c. search needs)
     returns
-    (λ c κs. search needs)
-    (λ c κs. search needs)
-    (λ c. search needs)
-    (λ c. search needs)
+    (λ c κs. search needs) (λ c κs. search needs) (λ c. search needs) (λ c. search needs)
     returns-2
-    (λ c κs. search needs)
-    (λ c κs. search needs)
+    (λ c κs. search needs) (λ c κs. search needs)
     returns-3)

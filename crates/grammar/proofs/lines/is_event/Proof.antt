@@ -1,3 +1,4 @@
+-- `is_event` answers whether the text says an event: its names are read and nothing is left.
 use mathlib.Core.Path.{sym, _∙_}
 use Rattle.grammar.proofs.AnswerLaws.{whole-left, whole-bad}
 use Rattle.grammar.proofs.Shapes.{event-whole}

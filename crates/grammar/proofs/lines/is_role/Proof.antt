@@ -1,3 +1,4 @@
+-- `is_role` answers whether the parser of role lines reads the whole text.
 use Rattle.grammar.proofs.AnswerLaws.{whole-left, whole-bad}
 use borrow.Author.Needs.{needs}
 use Rattle.grammar.proofs.lines.is_role.Statement.{statement}

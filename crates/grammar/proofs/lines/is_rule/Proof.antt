@@ -1,3 +1,4 @@
+-- `is_rule` answers whether the parser of rule lines reads the whole text, at the depth that its length gives.
 use Rattle.grammar.proofs.AnswerLaws.{whole-left, whole-bad}
 use native.Mathlib.Omega.{arith}
 use borrow.Author.Needs.{needs}

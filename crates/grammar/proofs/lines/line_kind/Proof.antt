@@ -1,3 +1,4 @@
+-- `line_kind` answers which kind of line the text says: a rule line, else a role line, else neither.
 use mathlib.Core.Path.{sym, _∙_}
 use Rattle.grammar.proofs.Shapes.{kind-rule, kind-role, kind-neither}
 use borrow.Author.Needs.{needs}

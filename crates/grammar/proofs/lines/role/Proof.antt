@@ -1,4 +1,5 @@
-use Rattle.grammar.proofs.AnswerLaws.{chain, chain-bad, mapped}
+-- `role` answers as the parser of role lines does, one reader after another.
+use Rattle.grammar.proofs.LevelLaws.{chain, chain-bad, mapped}
 use Rattle.grammar.specs.Parser.{roleOf}
 use borrow.Author.Needs.{needs}
 use Rattle.grammar.proofs.lines.role.Statement.{statement}
@@ -33,20 +34,11 @@ pub role-spec : {M : Type 1} → statement M
 role-spec =
     tie.close
     (tie.spec
-    (λ c κs. search needs)
-    (λ c. search needs)
-    (λ c. search needs)
+    (λ c κs. search needs) (λ c. search needs) (λ c. search needs)
     returns
-    (λ c κs. search needs)
-    (λ c κs. search needs)
-    (λ c. search needs)
-    (λ c. search needs)
+    (λ c κs. search needs) (λ c κs. search needs) (λ c. search needs) (λ c. search needs)
     returns-2
-    (λ c κs. search needs)
-    (λ c κs. search needs)
-    (λ c. search needs)
-    (λ c. search needs)
+    (λ c κs. search needs) (λ c κs. search needs) (λ c. search needs) (λ c. search needs)
     returns-3
-    (λ c κs. search needs)
-    (λ c κs. search needs)
+    (λ c κs. search needs) (λ c κs. search needs)
     returns-4)

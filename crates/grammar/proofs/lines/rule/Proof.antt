@@ -1,5 +1,5 @@
-use Rattle.grammar.proofs.LevelLaws.{part-shorter}
-use Rattle.grammar.proofs.AnswerLaws.{chain, chain-bad, mapped, at-depth, at-depths}
+-- `rule` answers as the parser of rule lines does at each depth: the head, the past, the tail.
+use Rattle.grammar.proofs.LevelLaws.{part-shorter, chain, chain-bad, mapped, at-depth, at-depths}
 use Rattle.grammar.specs.Parser.{tailOf, ruleOf, pastOf}
 use native.Mathlib.Omega.{arith}
 use borrow.Author.Needs.{needs}
@@ -34,15 +34,9 @@ pub rule-spec : {M : Type 1} → statement M
 rule-spec =
     tie.close
     (tie.spec
-    (λ c κs. search needs)
-    (λ c. search needs)
-    (λ c. search needs)
+    (λ c κs. search needs) (λ c. search needs) (λ c. search needs)
     returns
-    (λ c κs. search needs)
-    (λ c κs. search needs)
-    (λ c. search needs)
-    (λ c. search needs)
+    (λ c κs. search needs) (λ c κs. search needs) (λ c. search needs) (λ c. search needs)
     returns-2
-    (λ c κs. search needs)
-    (λ c κs. search needs)
+    (λ c κs. search needs) (λ c κs. search needs)
     returns-3)

@@ -1,5 +1,5 @@
-use Rattle.grammar.proofs.LevelLaws.{part-shorter}
-use Rattle.grammar.proofs.AnswerLaws.{chain, chain-bad, mapped, at-depth, at-depths}
+-- `tail` answers as the parser of what follows a rule's past does at each depth, one reader after another.
+use Rattle.grammar.proofs.LevelLaws.{part-shorter, chain, chain-bad, mapped, at-depth, at-depths}
 use Rattle.grammar.specs.Parser.{tailOf, patternOf}
 use native.Mathlib.Omega.{arith}
 use borrow.Author.Needs.{needs}
@@ -42,20 +42,11 @@ pub tail-spec : {M : Type 1} → statement M
 tail-spec =
     tie.close
     (tie.spec
-    (λ c κs. search needs)
-    (λ c. search needs)
-    (λ c. search needs)
+    (λ c κs. search needs) (λ c. search needs) (λ c. search needs)
     returns
-    (λ c κs. search needs)
-    (λ c κs. search needs)
-    (λ c. search needs)
-    (λ c. search needs)
+    (λ c κs. search needs) (λ c κs. search needs) (λ c. search needs) (λ c. search needs)
     returns-2
-    (λ c κs. search needs)
-    (λ c κs. search needs)
-    (λ c. search needs)
-    (λ c. search needs)
+    (λ c κs. search needs) (λ c κs. search needs) (λ c. search needs) (λ c. search needs)
     returns-3
-    (λ c κs. search needs)
-    (λ c κs. search needs)
+    (λ c κs. search needs) (λ c κs. search needs)
     returns-4)

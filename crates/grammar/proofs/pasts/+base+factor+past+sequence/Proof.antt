@@ -1,4 +1,6 @@
-use Rattle.grammar.proofs.LevelLaws.{part-shorter, past-bad, past-only, past-either, sequence-bad, sequence-single, sequence-beside, factor-bad, factor-stars, base-pattern, base-nothing, base-bad, base-group}
+-- `past`, `sequence`, `factor` and `base` answer as their parsers do. What falls is four times the unread length and the level: past 3, sequence 2, factor 1, base 0.
+use Rattle.grammar.proofs.LevelLaws.{part-shorter}
+use Rattle.grammar.proofs.LevelPasts.{past-bad, past-only, past-either, sequence-bad, sequence-single, sequence-beside, factor-bad, factor-stars, base-pattern, base-nothing, base-bad, base-group}
 use borrow.Author.Needs.{needs}
 use native.Mathlib.Omega.{arith}
 use lib.ListN.{length}
@@ -102,9 +104,6 @@ base-returns-3 t c =
 base-returns-4 : (t : ℕ) → base-lts.Need-returns-4 (base-calls t) (base-at t) base.Post
 base-returns-4 t c = base-pattern _ _ (rw (c .before .enum-told3 .given .1) at (c .before .before .before .mark-at .ensures)) (c .pattern .ensures)
 
-factor-base-requires : (t : ℕ) → factor-lts.Need-base-requires (factor-calls t) (factor-at t) factor.Post
-factor-base-requires t c κs = omega arith
-
 factor-returns : (t : ℕ) → factor-lts.Need-returns (factor-calls t) (factor-at t) factor.Post
 factor-returns t c =
     let r₁ = c .before in
@@ -112,9 +111,6 @@ factor-returns t c =
 
 factor-returns-2 : (t : ℕ) → factor-lts.Need-returns-2 (factor-calls t) (factor-at t) factor.Post
 factor-returns-2 t c = factor-bad _ (rw (c .enum-told .given .1) at (c .before .before .base .ensures))
-
-past-sequence-requires : (t : ℕ) → past-lts.Need-sequence-requires (past-calls t) (past-at t) past.Post
-past-sequence-requires t c κs = omega arith
 
 past-past-requires : (t : ℕ) → past-lts.Need-past-requires (past-calls t) (past-at t) past.Post
 past-past-requires t c κs =
@@ -141,9 +137,6 @@ past-returns-2 t c =
 past-returns-3 : (t : ℕ) → past-lts.Need-returns-3 (past-calls t) (past-at t) past.Post
 past-returns-3 t c = past-bad _ (rw (c .enum-told2 .given .1) at (c .before .before .sequence .ensures))
 
-sequence-factor-requires : (t : ℕ) → sequence-lts.Need-factor-requires (sequence-calls t) (sequence-at t) sequence.Post
-sequence-factor-requires t c κs = omega arith
-
 sequence-sequence-requires : (t : ℕ) → sequence-lts.Need-sequence-requires (sequence-calls t) (sequence-at t) sequence.Post
 sequence-sequence-requires t c κs =
     let r₁ = c .before .before in
@@ -168,80 +161,26 @@ sequence-returns-3 t c = sequence-bad _ (rw (c .enum-told .given .1) at (c .befo
 
 pub +base+factor+past+sequence-spec : {M : Type 1} → statement M
 +base+factor+past+sequence-spec = close μ-base μ-factor μ-past μ-sequence (λ t. base-lts.spec (base-calls t) (base-at t) base.Post
-    (λ c κs. search needs)
-    (λ c. search needs)
-    (λ c κs. search needs)
-    (λ c κs. search needs)
-    (λ c. search needs)
-    (λ c. search needs)
+    (λ c κs. search needs) (λ c. search needs) (λ c κs. search needs) (λ c κs. search needs) (λ c. search needs) (λ c. search needs)
     (base-past-requires t)
-    (λ c. search needs)
-    (λ c κs. search needs)
-    (λ c κs. search needs)
-    (λ c. search needs)
-    (λ c. search needs)
-    (λ c κs. search needs)
+    (λ c. search needs) (λ c κs. search needs) (λ c κs. search needs) (λ c. search needs) (λ c. search needs) (λ c κs. search needs)
     (base-returns t)
     (base-returns-2 t)
     (base-returns-3 t)
     (base-returns-4 t))
-    (λ t. factor-lts.spec (
-      base-below t,
-      base.Post,
-      rest-reads.Asked,
-      rest-reads.Learnt,
-      stars-reads.Asked,
-      stars-reads.Learnt,
-    )
-    (factor-at t)
-    factor.Post
-    (factor-base-requires t)
-    (λ c. search needs)
-    (λ c κs. search needs)
-    (λ c κs. search needs)
-    (λ c. search needs)
+    (λ t. factor-lts.spec (factor-calls t) (factor-at t) factor.Post
+    (λ c κs. omega arith) (λ c. search needs) (λ c κs. search needs) (λ c κs. search needs) (λ c. search needs)
     (factor-returns t)
     (factor-returns-2 t))
-    (λ t. past-lts.spec (
-      sequence-below t,
-      sequence.Post,
-      rest-reads.Asked,
-      rest-reads.Learnt,
-      mark-at-reads.Asked,
-      mark-at-reads.Learnt,
-      past-below t,
-      past.Post,
-    )
-    (past-at t)
-    past.Post
-    (past-sequence-requires t)
-    (λ c. search needs)
-    (λ c κs. search needs)
-    (λ c κs. search needs)
-    (λ c. search needs)
-    (λ c κs. search needs)
+    (λ t. past-lts.spec (past-calls t) (past-at t) past.Post
+    (λ c κs. omega arith) (λ c. search needs) (λ c κs. search needs) (λ c κs. search needs) (λ c. search needs) (λ c κs. search needs)
     (past-past-requires t)
-    (λ c. search needs)
-    (λ c. search needs)
+    (λ c. search needs) (λ c. search needs)
     (past-returns t)
     (past-returns-2 t)
     (past-returns-3 t))
-    λ t. sequence-lts.spec (
-      factor-below t,
-      factor.Post,
-      rest-reads.Asked,
-      rest-reads.Learnt,
-      factor-begins-reads.Asked,
-      factor-begins-reads.Learnt,
-      sequence-below t,
-      sequence.Post,
-    )
-    (sequence-at t)
-    sequence.Post
-    (sequence-factor-requires t)
-    (λ c. search needs)
-    (λ c κs. search needs)
-    (λ c κs. search needs)
+    λ t. sequence-lts.spec (sequence-calls t) (sequence-at t) sequence.Post
+    (λ c κs. omega arith) (λ c. search needs) (λ c κs. search needs) (λ c κs. search needs)
     (sequence-sequence-requires t)
     (λ c. search needs)
     (sequence-returns t)

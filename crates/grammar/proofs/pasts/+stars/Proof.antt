@@ -1,4 +1,6 @@
-use Rattle.grammar.proofs.LevelLaws.{stars-stop, stars-more, part-shorter}
+-- `stars` leaves what follows the stars in front. What falls is the unread length.
+use Rattle.grammar.proofs.LevelLaws.{part-shorter}
+use Rattle.grammar.proofs.LevelPasts.{stars-stop, stars-more}
 use borrow.Author.Needs.{needs}
 use native.Mathlib.Omega.{arith}
 use lib.ListN.{length}
@@ -41,9 +43,7 @@ stars-returns-2 t c = stars-stop _ (rw (c .enum-told .given .1) at (c .before .b
 
 pub +stars-spec : {M : Type 1} → statement M
 +stars-spec = close μ-stars λ t. stars-lts.spec (stars-calls t) (stars-at t) stars.Post
-    (λ c κs. search needs)
-    (λ c. search needs)
-    (λ c κs. search needs)
+    (λ c κs. search needs) (λ c. search needs) (λ c κs. search needs)
     (stars-stars-requires t)
     (λ c. search needs)
     (stars-returns t)

@@ -1,3 +1,4 @@
+-- `factor_begins` answers whether the next token is <, (, [ or the word any.
 use mathlib.Core.Path.{sym}
 use mathlib.Core.Logic.{⊎-elim}
 use native.Mathlib.Omega.{arith}
@@ -37,8 +38,7 @@ pub factor-begins-spec : {M : Type 1} → statement M
 factor-begins-spec =
     tie.close
     (tie.spec
-    (λ c κs. search needs)
-    (λ c. search needs)
+    (λ c κs. search needs) (λ c. search needs)
     returns
     returns-2
     (λ c. search needs)

@@ -1,4 +1,6 @@
-use Rattle.grammar.proofs.LevelLaws.{part-shorter, condition-bad, condition-term, condition-or, term-not, term-simple, term-bad, term-inside}
+-- `condition` and `term` answer as their parsers do. What falls is twice the unread length and the level: condition 1, term 0.
+use Rattle.grammar.proofs.LevelLaws.{part-shorter}
+use Rattle.grammar.proofs.LevelPatterns.{condition-bad, condition-term, condition-or, term-not, term-simple, term-bad, term-inside}
 use native.Mathlib.Omega.{arith}
 use lib.ListN.{length}
 use borrow.Author.Needs.{needs}
@@ -42,9 +44,6 @@ condition-calls t = (term-below t, term.Post, rest-reads.Asked, rest-reads.Learn
 
 abbrev term-calls : ℕ → term-lts.Claims
 term-calls t = (word-at-reads.Asked, word-at-reads.Learnt, rest-reads.Asked, rest-reads.Learnt, term-below t, term.Post, mark-at-reads.Asked, mark-at-reads.Learnt, condition-below t, condition.Post, simple-reads.Asked, simple-reads.Learnt)
-
-condition-term-requires : (t : ℕ) → condition-lts.Need-term-requires (condition-calls t) (condition-at t) condition.Post
-condition-term-requires t c κs = omega arith
 
 condition-condition-requires : (t : ℕ) → condition-lts.Need-condition-requires (condition-calls t) (condition-at t) condition.Post
 condition-condition-requires t c κs =
@@ -109,49 +108,18 @@ term-returns-4 t c =
 
 pub +condition+term-spec : {M : Type 1} → statement M
 +condition+term-spec = close μ-condition μ-term (λ t. condition-lts.spec (condition-calls t) (condition-at t) condition.Post
-    (condition-term-requires t)
-    (λ c. search needs)
-    (λ c κs. search needs)
-    (λ c κs. search needs)
-    (λ c. search needs)
-    (λ c κs. search needs)
+    (λ c κs. omega arith) (λ c. search needs) (λ c κs. search needs) (λ c κs. search needs) (λ c. search needs) (λ c κs. search needs)
     (condition-condition-requires t)
-    (λ c. search needs)
-    (λ c. search needs)
+    (λ c. search needs) (λ c. search needs)
     (condition-returns t)
     (condition-returns-2 t)
     (condition-returns-3 t))
-    λ t. term-lts.spec (
-      word-at-reads.Asked,
-      word-at-reads.Learnt,
-      rest-reads.Asked,
-      rest-reads.Learnt,
-      term-below t,
-      term.Post,
-      mark-at-reads.Asked,
-      mark-at-reads.Learnt,
-      condition-below t,
-      condition.Post,
-      simple-reads.Asked,
-      simple-reads.Learnt,
-    )
-    (term-at t)
-    term.Post
-    (λ c κs. search needs)
-    (λ c. search needs)
-    (λ c κs. search needs)
+    λ t. term-lts.spec (term-calls t) (term-at t) term.Post
+    (λ c κs. search needs) (λ c. search needs) (λ c κs. search needs)
     (term-term-requires t)
-    (λ c. search needs)
-    (λ c κs. search needs)
-    (λ c. search needs)
-    (λ c κs. search needs)
+    (λ c. search needs) (λ c κs. search needs) (λ c. search needs) (λ c κs. search needs)
     (term-condition-requires t)
-    (λ c. search needs)
-    (λ c κs. search needs)
-    (λ c κs. search needs)
-    (λ c. search needs)
-    (λ c. search needs)
-    (λ c κs. search needs)
+    (λ c. search needs) (λ c κs. search needs) (λ c κs. search needs) (λ c. search needs) (λ c. search needs) (λ c κs. search needs)
     (term-returns t)
     (term-returns-2 t)
     (term-returns-3 t)

@@ -1,4 +1,5 @@
-use Rattle.grammar.proofs.LevelLaws.{items-full, items-close, items-more, items-open}
+-- `items` answers as the parser of at most k items does. What falls is k.
+use Rattle.grammar.proofs.LevelPatterns.{items-full, items-close, items-more, items-open}
 use native.Mathlib.Omega.{arith}
 use borrow.Author.Needs.{needs}
 use Prim.Native.Nat.{ℕ, _<_}
@@ -30,9 +31,6 @@ items-returns : (t : ℕ) → items-lts.Need-returns (items-calls t) (items-at t
 items-returns t c =
     items-full _ _ (c .open-end .result) (c .before .if1 .taken) (rw (c .before .before .enum-told .given .1) at (c .before .before .before .before .mark-at .ensures)) (c .open-end .ensures)
 
-items-items-requires : (t : ℕ) → items-lts.Need-items-requires (items-calls t) (items-at t) items.Post
-items-items-requires t c κs = omega arith
-
 items-returns-2 : (t : ℕ) → items-lts.Need-returns-2 (items-calls t) (items-at t) items.Post
 items-returns-2 t c = items-close _ _ _ (rw (c .before .n .given .1) at (c .before .before .before .mark-at .ensures))
 
@@ -50,17 +48,9 @@ items-returns-4 t c =
 
 pub +items-spec : {M : Type 1} → statement M
 +items-spec = close μ-items λ t. items-lts.spec (items-calls t) (items-at t) items.Post
-    (λ c κs. search needs)
-    (λ c. search needs)
-    (λ c. search needs)
-    (λ c κs. search needs)
+    (λ c κs. search needs) (λ c. search needs) (λ c. search needs) (λ c κs. search needs)
     (items-returns t)
-    (λ c κs. search needs)
-    (λ c. search needs)
-    (λ c κs. search needs)
-    (λ c. search needs)
-    (items-items-requires t)
-    (λ c. search needs)
+    (λ c κs. search needs) (λ c. search needs) (λ c κs. search needs) (λ c. search needs) (λ c κs. omega arith) (λ c. search needs)
     (λ c κs. search needs)
     (items-returns-2 t)
     (items-returns-3 t)

@@ -1,4 +1,5 @@
-use Rattle.grammar.proofs.LevelLaws.{item-below, item-exact}
+-- `item` answers as the parser of an item does: after a +, or with none.
+use Rattle.grammar.proofs.LevelPatterns.{item-below, item-exact}
 use borrow.Author.Needs.{needs}
 use Rattle.grammar.proofs.patterns.item.Statement.{statement}
 use Rattle.grammar.proofs.patterns.item.Tie as tie
@@ -15,11 +16,6 @@ pub item-spec : {M : Type 1} → statement M
 item-spec =
     tie.close
     (tie.spec
-    (λ c κs. search needs)
-    (λ c. search needs)
-    (λ c κs. search needs)
-    (λ c κs. search needs)
-    (λ c. search needs)
-    (λ c κs. search needs)
+    (λ c κs. search needs) (λ c. search needs) (λ c κs. search needs) (λ c κs. search needs) (λ c. search needs) (λ c κs. search needs)
     returns
     returns-2)

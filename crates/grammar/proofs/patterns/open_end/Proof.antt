@@ -1,4 +1,5 @@
-use Rattle.grammar.proofs.LevelLaws.{open-yes, open-no}
+-- `open_end` answers as the parser of * and > does.
+use Rattle.grammar.proofs.LevelPatterns.{open-yes, open-no}
 use borrow.Author.Needs.{needs}
 use Rattle.grammar.proofs.patterns.open_end.Statement.{statement}
 use Rattle.grammar.proofs.patterns.open_end.Tie as tie
@@ -15,10 +16,6 @@ pub open-end-spec : {M : Type 1} → statement M
 open-end-spec =
     tie.close
     (tie.spec
-    (λ c κs. search needs)
-    (λ c. search needs)
-    (λ c κs. search needs)
-    (λ c κs. search needs)
-    (λ c. search needs)
+    (λ c κs. search needs) (λ c. search needs) (λ c κs. search needs) (λ c κs. search needs) (λ c. search needs)
     returns
     returns-2)

@@ -1,4 +1,5 @@
-use Rattle.grammar.proofs.LevelLaws.{pattern-plain, pattern-bad, pattern-bracketed}
+-- `pattern` answers as its parser does at each depth: a condition in square brackets, or a simple pattern.
+use Rattle.grammar.proofs.LevelPatterns.{pattern-plain, pattern-bad, pattern-bracketed}
 use borrow.Author.Needs.{needs}
 use Rattle.grammar.proofs.patterns.pattern.Statement.{statement}
 use Rattle.grammar.proofs.patterns.pattern.Tie as tie
@@ -21,16 +22,8 @@ pub pattern-spec : {M : Type 1} → statement M
 pattern-spec =
     tie.close
     (tie.spec
-    (λ c κs. search needs)
-    (λ c. search needs)
-    (λ c κs. search needs)
-    (λ c κs. search needs)
-    (λ c. search needs)
-    (λ c κs. search needs)
-    (λ c κs. search needs)
-    (λ c. search needs)
-    (λ c. search needs)
-    (λ c κs. search needs)
+    (λ c κs. search needs) (λ c. search needs) (λ c κs. search needs) (λ c κs. search needs) (λ c. search needs) (λ c κs. search needs)
+    (λ c κs. search needs) (λ c. search needs) (λ c. search needs) (λ c κs. search needs)
     returns
     returns-2
     returns-3)

@@ -1,4 +1,5 @@
-use Rattle.grammar.proofs.LevelLaws.{simple-items, simple-any}
+-- `simple` answers as its parser does: items after <, or the word any.
+use Rattle.grammar.proofs.LevelPatterns.{simple-items, simple-any}
 use borrow.Author.Needs.{needs}
 use Rattle.grammar.proofs.patterns.simple.Statement.{statement}
 use Rattle.grammar.proofs.patterns.simple.Tie as tie
@@ -15,11 +16,6 @@ pub simple-spec : {M : Type 1} → statement M
 simple-spec =
     tie.close
     (tie.spec
-    (λ c κs. search needs)
-    (λ c. search needs)
-    (λ c κs. search needs)
-    (λ c κs. search needs)
-    (λ c. search needs)
-    (λ c κs. search needs)
+    (λ c κs. search needs) (λ c. search needs) (λ c κs. search needs) (λ c κs. search needs) (λ c. search needs) (λ c κs. search needs)
     returns
     returns-2)

@@ -1,4 +1,5 @@
-use Rattle.grammar.proofs.LevelLaws.{slots-full, slots-close, slots-more, slots-bad}
+-- `slots` answers as the parser of at most k slots does. What falls is k.
+use Rattle.grammar.proofs.LevelResponses.{slots-full, slots-close, slots-more, slots-bad}
 use native.Mathlib.Omega.{arith}
 use borrow.Author.Needs.{needs}
 use Prim.Native.Nat.{ℕ, _<_}
@@ -28,9 +29,6 @@ slots-calls t = (mark-at-reads.Asked, mark-at-reads.Learnt, slot-reads.Asked, sl
 slots-returns : (t : ℕ) → slots-lts.Need-returns (slots-calls t) (slots-at t) slots.Post
 slots-returns t c = slots-full _ _ (c .if1 .taken) (rw (c .before .enum-told .given .1) at (c .before .before .before .mark-at .ensures))
 
-slots-slots-requires : (t : ℕ) → slots-lts.Need-slots-requires (slots-calls t) (slots-at t) slots.Post
-slots-slots-requires t c κs = omega arith
-
 slots-returns-2 : (t : ℕ) → slots-lts.Need-returns-2 (slots-calls t) (slots-at t) slots.Post
 slots-returns-2 t c = slots-close _ _ _ (rw (c .before .n .given .1) at (c .before .before .before .mark-at .ensures))
 
@@ -47,16 +45,9 @@ slots-returns-4 t c =
 
 pub +slots-spec : {M : Type 1} → statement M
 +slots-spec = close μ-slots λ t. slots-lts.spec (slots-calls t) (slots-at t) slots.Post
-    (λ c κs. search needs)
-    (λ c. search needs)
-    (λ c. search needs)
+    (λ c κs. search needs) (λ c. search needs) (λ c. search needs)
     (slots-returns t)
-    (λ c κs. search needs)
-    (λ c. search needs)
-    (λ c κs. search needs)
-    (λ c. search needs)
-    (slots-slots-requires t)
-    (λ c. search needs)
+    (λ c κs. search needs) (λ c. search needs) (λ c κs. search needs) (λ c. search needs) (λ c κs. omega arith) (λ c. search needs)
     (slots-returns-2 t)
     (slots-returns-3 t)
     (slots-returns-4 t)

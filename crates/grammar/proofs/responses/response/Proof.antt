@@ -1,4 +1,5 @@
-use Rattle.grammar.proofs.LevelLaws.{response-pass, response-hold, response-send, response-anew, response-bad}
+-- `response` answers as its parser does, one law for each of its four words and one for none of them.
+use Rattle.grammar.proofs.LevelResponses.{response-pass, response-hold, response-send, response-anew, response-bad}
 use borrow.Author.Needs.{needs}
 use Rattle.grammar.proofs.responses.response.Statement.{statement}
 use Rattle.grammar.proofs.responses.response.Tie as tie
@@ -35,24 +36,12 @@ pub response-spec : {M : Type 1} → statement M
 response-spec =
     tie.close
     (tie.spec
-    (λ c κs. search needs)
-    (λ c. search needs)
+    (λ c κs. search needs) (λ c. search needs)
     returns
-    (λ c. search needs)
-    (λ c κs. search needs)
-    (λ c. search needs)
+    (λ c. search needs) (λ c κs. search needs) (λ c. search needs)
     returns-2
-    (λ c. search needs)
-    (λ c κs. search needs)
-    (λ c. search needs)
-    (λ c κs. search needs)
-    (λ c κs. search needs)
+    (λ c. search needs) (λ c κs. search needs) (λ c. search needs) (λ c κs. search needs) (λ c κs. search needs)
     returns-3
-    (λ c. search needs)
-    (λ c κs. search needs)
-    (λ c. search needs)
-    (λ c κs. search needs)
-    (λ c κs. search needs)
-    (λ c. search needs)
+    (λ c. search needs) (λ c κs. search needs) (λ c. search needs) (λ c κs. search needs) (λ c κs. search needs) (λ c. search needs)
     returns-4
     returns-5)

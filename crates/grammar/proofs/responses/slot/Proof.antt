@@ -1,4 +1,5 @@
-use Rattle.grammar.proofs.LevelLaws.{slot-place, slot-named}
+-- `slot` answers as its parser does: a place after #, or a name.
+use Rattle.grammar.proofs.LevelResponses.{slot-place, slot-named}
 use borrow.Author.Needs.{needs}
 use Rattle.grammar.proofs.responses.slot.Statement.{statement}
 use Rattle.grammar.proofs.responses.slot.Tie as tie
@@ -15,11 +16,6 @@ pub slot-spec : {M : Type 1} → statement M
 slot-spec =
     tie.close
     (tie.spec
-    (λ c κs. search needs)
-    (λ c. search needs)
-    (λ c κs. search needs)
-    (λ c κs. search needs)
-    (λ c. search needs)
-    (λ c κs. search needs)
+    (λ c κs. search needs) (λ c. search needs) (λ c κs. search needs) (λ c κs. search needs) (λ c. search needs) (λ c κs. search needs)
     returns
     returns-2)

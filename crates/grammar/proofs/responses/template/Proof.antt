@@ -1,4 +1,5 @@
-use Rattle.grammar.proofs.LevelLaws.{template-yes, template-no}
+-- `template` answers as its parser does: slots after <.
+use Rattle.grammar.proofs.LevelResponses.{template-yes, template-no}
 use borrow.Author.Needs.{needs}
 use Rattle.grammar.proofs.responses.template.Statement.{statement}
 use Rattle.grammar.proofs.responses.template.Tie as tie
@@ -15,10 +16,6 @@ pub template-spec : {M : Type 1} → statement M
 template-spec =
     tie.close
     (tie.spec
-    (λ c κs. search needs)
-    (λ c. search needs)
-    (λ c κs. search needs)
-    (λ c κs. search needs)
-    (λ c. search needs)
+    (λ c κs. search needs) (λ c. search needs) (λ c κs. search needs) (λ c κs. search needs) (λ c. search needs)
     returns
     returns-2)

@@ -1,0 +1,9 @@
+pub mod TableLaws
+pub mod Here
+pub mod ItemLaws
+pub mod TermLaws
+pub mod PatternLaws
+pub mod JudgeLaws
+pub mod RoleLaws
+pub mod MeetsLaws
+pub mod TableNames

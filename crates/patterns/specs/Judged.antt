@@ -1,0 +1,62 @@
+-- What judging a pattern's code promises, by trees: where the code spells a pattern, the answer is whether the event meets it, and the end is where
+-- its spelling ends. For any bytes the end does not lie before the start.
+-- Assumes nothing.
+use mathlib.Core.Path.{_≡_}
+use mathlib.Core.Bool.{Bool, true, false, cond}
+use mathlib.Core.List.{List, _++_}
+use Prim.Native.Nat.{ℕ, _+_, _-_, _≤_, _<_}
+use lib.Dec.{eqb, ltb, leb}
+use lib.ListN.{length, getD, drop}
+use Rattle.grammar.specs.Trees.{Items, Condition, Term, Pattern}
+use Rattle.code.specs.Trees.{codeItems, codeCondition, codeTerm, codePattern}
+use Rattle.patterns.specs.Table.{belowIn}
+use Rattle.patterns.specs.Meets.{Order, itemsMeet, termMeets, conditionMeets, meets}
+use Rattle.patterns.specs.declared.judge.Judged.{Judged}
+
+-- how ids compare, by the table of parents
+abbrev pub orderIn : List ℕ → Order ℕ
+orderIn ps = record { is = λ r p. eqb r p; under = λ r p. belowIn ps r p }
+
+-- the place after i in a list of n, and i where there is none
+abbrev pub onward : ℕ → ℕ → ℕ
+onward i n = cond (ltb i n) (i + 1) i
+
+abbrev pub isOf : List ℕ → Bool → ℕ → ℕ → Bool
+isOf ps true p r = belowIn ps r p
+isOf ps false p r = eqb r p
+
+-- the role at i of the event is the one that a byte of code names, or below it
+unfoldable pub roleAt : List ℕ → Bool → ℕ → List ℕ → ℕ → Bool
+roleAt ps under byte event i = cond (ltb byte 128) false (cond (leb (length event) i) false (isOf ps under (byte - 128) (getD event i 0)))
+
+-- no or follows
+unfoldable pub Ended : List ℕ → Type 0
+Ended rest = getD rest 0 0 ≡ 111 → ⊥
+
+-- items, against the roles of the event from i on
+pub record ItemsRead (ps event : List ℕ) (i : ℕ) (code : List ℕ) (at : ℕ) (r : Judged) : Type 0 where
+  pub onwards : at ≤ r .end
+  pub right : (xs : Items ℕ) (rest : List ℕ) → drop at code ≡ codeItems xs ++ rest
+      → (r .ok ≡ itemsMeet (orderIn ps) (drop i event) xs) × (r .end ≡ at + length (codeItems xs))
+
+pub record TermRead (ps event code : List ℕ) (at : ℕ) (r : Judged) : Type 0 where
+  pub onwards : at ≤ r .end
+  pub right : (t : Term ℕ) (rest : List ℕ) → drop at code ≡ codeTerm t ++ rest
+      → (r .ok ≡ termMeets (orderIn ps) event t) × (r .end ≡ at + length (codeTerm t))
+
+pub record ConditionRead (ps event code : List ℕ) (at : ℕ) (r : Judged) : Type 0 where
+  pub onwards : at ≤ r .end
+  pub right : (c : Condition ℕ) (rest : List ℕ) → Ended rest → drop at code ≡ codeCondition c ++ rest
+      → (r .ok ≡ conditionMeets (orderIn ps) event c) × (r .end ≡ at + length (codeCondition c))
+
+-- a whole condition, or one term of it
+pub record JudgeRead (ps event code : List ℕ) (at : ℕ) (whole : Bool) (r : Judged) : Type 0 where
+  pub onwards : at ≤ r .end
+  pub one : whole ≡ false → TermRead ps event code at r
+  pub all : whole ≡ true → ConditionRead ps event code at r
+
+pub record PatternRead (ps event code : List ℕ) (at : ℕ) (r : Judged) : Type 0 where
+  pub onwards : at ≤ r .end
+  pub moves : at < length code → at < r .end
+  pub right : (p : Pattern ℕ) (rest : List ℕ) → drop at code ≡ codePattern p ++ rest
+      → (r .ok ≡ meets (orderIn ps) event p) × (r .end ≡ at + length (codePattern p))

@@ -1,0 +1,5 @@
+pub mod All
+pub mod Roles
+pub mod Table
+pub mod Meets
+pub mod Judged

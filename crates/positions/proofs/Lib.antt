@@ -1,0 +1,10 @@
+pub mod Bools
+pub mod Lists
+pub mod Matching
+pub mod Allowed
+pub mod SetLaws
+pub mod WalkLaws
+pub mod Following
+pub mod History
+pub mod SumLaws
+pub mod Right

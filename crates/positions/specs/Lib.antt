@@ -1,0 +1,7 @@
+pub mod Past
+pub mod Matcher
+pub mod Numbers
+pub mod Positions
+pub mod Walk
+pub mod Sets
+pub mod Sums
