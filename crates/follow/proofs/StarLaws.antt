@@ -1,0 +1,45 @@
+-- What each way through `stars` shows.
+-- Assumes nothing.
+use mathlib.Core.Path.{_≡_, refl, sym, ap, _∙_}
+use mathlib.Core.Bool.{Bool, true, false}
+use mathlib.Core.List.{List, [], _∷_, _++_, append-assoc}
+use Prim.Native.Nat.{ℕ, zero, suc, _+_, _<_, _≤_}
+use native.Mathlib.Omega.{arith}
+use lib.ListN.{length, getD, drop, replicate, length-append, length-replicate}
+use Rattle.lexer.proofs.Bools.{true-not-false}
+use Rattle.grammar.specs.Trees.{Pattern, plain, bracketed, anyEvent, items, Past, only, either, Sequence, single, beside, Factor, starred, Base, pattern, nothing, group}
+use Rattle.code.specs.Trees.{codeSimple, codePattern, codePast, codeSequence, codeFactor, codeBase}
+use Rattle.patterns.specs.Meets.{meets}
+use Rattle.patterns.specs.Judged.{orderIn, PatternRead}
+use Rattle.patterns.specs.declared.judge.Judged.{Judged}
+use Rattle.patterns.proofs.Here.{none, here, beyond, first}
+use Rattle.positions.specs.Past as meaning
+use Rattle.positions.specs.Sums.{sums, emptySums, patSums, seqSums, altSums, starSums}
+use Rattle.positions.specs.declared.sums.Sums.{Sums}
+use Rattle.follow.specs.Meaning.{starsOn, pastMeaning, sequenceMeaning, factorMeaning, baseMeaning}
+use Rattle.follow.specs.Walked.{starts, again, AfterBase, AfterFactor, AfterSequence, AfterPast, StarsRead, BaseRead, FactorRead, SequenceRead, PastRead}
+use Rattle.follow.specs.declared.walk.Walk.{Walk}
+
+module _ (code : List ℕ) (w : Walk) where
+  pub stars-none : length code ≤ w .end → StarsRead code w w
+  stars-none l = record { onwards = omega arith; right = go }
+    where
+      go : (n : ℕ) (rest : List ℕ) → AfterFactor rest → drop (w .end) code ≡ replicate n 42 ++ rest → (w .sums ≡ again n (w .sums)) × (w .end ≡ w .end + n)
+      go zero rest a e = (refl, omega arith)
+      go (suc n) rest a e = absurd (none code (w .end) _ _ l e)
+
+  pub stars-stop : (getD code (w .end) 0 ≡ 42 → ⊥) → StarsRead code w w
+  stars-stop b = record { onwards = omega arith; right = go }
+    where
+      go : (n : ℕ) (rest : List ℕ) → AfterFactor rest → drop (w .end) code ≡ replicate n 42 ++ rest → (w .sums ≡ again n (w .sums)) × (w .end ≡ w .end + n)
+      go zero rest a e = (refl, omega arith)
+      go (suc n) rest a e = absurd (b (here code (w .end) _ _ e .byte))
+
+  pub stars-more : getD code (w .end) 0 ≡ 42 → (s : Sums) → s ≡ starSums (w .sums) → (r : Walk) → StarsRead code (record { end = w .end + 1; sums = s }) r → StarsRead code w r
+  stars-more b s q r ih = record { onwards = let p = ih .onwards in omega arith; right = go }
+    where
+      go : (n : ℕ) (rest : List ℕ) → AfterFactor rest → drop (w .end) code ≡ replicate n 42 ++ rest → (r .sums ≡ again n (w .sums)) × (r .end ≡ w .end + n)
+      go zero rest a e = absurd (a (sym (first code (w .end) rest e) ∙ b))
+      go (suc n) rest a e =
+          let d = ih .right n rest a (here code (w .end) _ _ e .next) in
+          (d .0 ∙ ap (again n) q, omega (arith, d .1))
