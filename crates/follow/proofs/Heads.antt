@@ -1,24 +1,14 @@
 -- Each level begins with a byte that starts a base.
 -- Assumes nothing.
-use mathlib.Core.Path.{_≡_, refl, sym, ap, _∙_}
-use mathlib.Core.Bool.{Bool, true, false}
-use mathlib.Core.List.{List, [], _∷_, _++_, append-assoc}
-use Prim.Native.Nat.{ℕ, zero, suc, _+_, _<_, _≤_}
-use native.Mathlib.Omega.{arith}
-use lib.ListN.{length, getD, drop, replicate, length-append, length-replicate}
-use Rattle.lexer.proofs.Bools.{true-not-false}
+use mathlib.Core.Path.{_≡_, refl, ap, _∙_}
+use mathlib.Core.Bool.{true}
+use mathlib.Core.List.{List, _∷_, _++_}
+use Prim.Native.Nat.{ℕ, _+_, _≤_}
+use lib.ListN.{length, getD, drop, replicate}
 use Rattle.grammar.specs.Trees.{Pattern, plain, bracketed, anyEvent, items, Past, only, either, Sequence, single, beside, Factor, starred, Base, pattern, nothing, group}
 use Rattle.code.specs.Trees.{codeSimple, codePattern, codePast, codeSequence, codeFactor, codeBase}
-use Rattle.patterns.specs.Meets.{meets}
-use Rattle.patterns.specs.Judged.{orderIn, PatternRead}
-use Rattle.patterns.specs.declared.judge.Judged.{Judged}
-use Rattle.patterns.proofs.Here.{none, here, beyond, first}
-use Rattle.positions.specs.Past as meaning
-use Rattle.positions.specs.Sums.{sums, emptySums, patSums, seqSums, altSums, starSums}
-use Rattle.positions.specs.declared.sums.Sums.{Sums}
-use Rattle.follow.specs.Meaning.{starsOn, pastMeaning, sequenceMeaning, factorMeaning, baseMeaning}
-use Rattle.follow.specs.Walked.{starts, again, AfterBase, AfterFactor, AfterSequence, AfterPast, StarsRead, BaseRead, FactorRead, SequenceRead, PastRead}
-use Rattle.follow.specs.declared.walk.Walk.{Walk}
+use Rattle.patterns.proofs.Here.{none, here}
+use Rattle.follow.specs.Walked.{starts}
 
 pub record Head (l : List ℕ) : Type 0 where
   pub byte : ℕ

@@ -1,3 +1,10 @@
 pub mod Heads
 pub mod StarLaws
 pub mod WalkLaws
+pub mod SumsAlike
+pub mod RuleLaws
+pub mod CommitLaws
+pub mod StateLaws
+pub mod SizeLaws
+pub mod RightLaws
+pub mod Following

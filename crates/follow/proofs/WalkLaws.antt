@@ -3,7 +3,7 @@
 use mathlib.Core.Path.{_≡_, refl, sym, ap, _∙_}
 use mathlib.Core.Bool.{Bool, true, false}
 use mathlib.Core.List.{List, [], _∷_, _++_, append-assoc}
-use Prim.Native.Nat.{ℕ, zero, suc, _+_, _<_, _≤_}
+use Prim.Native.Nat.{ℕ, zero, suc, _+_, _≤_}
 use native.Mathlib.Omega.{arith}
 use lib.ListN.{length, getD, drop, replicate, length-append, length-replicate}
 use Rattle.lexer.proofs.Bools.{true-not-false}
@@ -14,12 +14,12 @@ use Rattle.patterns.specs.Judged.{orderIn, PatternRead}
 use Rattle.patterns.specs.declared.judge.Judged.{Judged}
 use Rattle.patterns.proofs.Here.{none, here, beyond, first}
 use Rattle.positions.specs.Past as meaning
-use Rattle.positions.specs.Sums.{sums, emptySums, patSums, seqSums, altSums, starSums}
+use Rattle.positions.specs.Sums.{sums, emptySums, patSums, seqSums, altSums}
 use Rattle.positions.specs.declared.sums.Sums.{Sums}
 use Rattle.follow.specs.Meaning.{starsOn, pastMeaning, sequenceMeaning, factorMeaning, baseMeaning}
 use Rattle.follow.specs.Walked.{starts, again, AfterBase, AfterFactor, AfterSequence, AfterPast, StarsRead, BaseRead, FactorRead, SequenceRead, PastRead}
 use Rattle.follow.specs.declared.walk.Walk.{Walk}
-use Rattle.follow.proofs.Heads.{longer, base-head, factor-head, sequence-head, past-head, nowhere, starts-here}
+use Rattle.follow.proofs.Heads.{longer, base-head, sequence-head, past-head, nowhere, starts-here}
 
 -- no pattern begins with a round bracket
 not-round : (code : List ℕ) (at : ℕ) (p : Pattern ℕ) (rest : List ℕ) → drop at code ≡ codePattern p ++ rest → getD code at 0 ≡ 40 → ⊥

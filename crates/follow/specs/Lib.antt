@@ -1,2 +1,5 @@
 pub mod Meaning
 pub mod Walked
+pub mod Rules
+pub mod State
+pub mod Follows

@@ -2,18 +2,17 @@
 -- finds the sums of its meaning, and ends where its spelling ends. For any bytes it ends, and not before its start.
 -- Assumes nothing.
 use mathlib.Core.Path.{_≡_}
-use mathlib.Core.Bool.{Bool, true, false}
+use mathlib.Core.Bool.{Bool, false}
 use mathlib.Core.List.{List, [], _∷_, _++_}
 use Prim.Native.Nat.{ℕ, zero, suc, _+_, _≤_, _<_}
 use lib.ListN.{length, getD, drop, replicate}
 use Rattle.lexer.specs.Class.{among}
-use Rattle.grammar.specs.Trees as trees
 use Rattle.grammar.specs.Trees.{Pattern}
 use Rattle.code.specs.Trees.{codePast, codeSequence, codeFactor, codeBase}
 use Rattle.patterns.specs.Meets.{meets}
 use Rattle.patterns.specs.Judged.{orderIn}
 use Rattle.positions.specs.Past.{Past}
-use Rattle.positions.specs.Sums.{sums, starSums, stepOf, endsOf}
+use Rattle.positions.specs.Sums.{sums, starSums}
 use Rattle.positions.specs.declared.sums.Sums.{Sums}
 use Rattle.follow.specs.Meaning.{pastMeaning, sequenceMeaning, factorMeaning, baseMeaning}
 use Rattle.follow.specs.declared.walk.Walk.{Walk}

@@ -1,3 +1,5 @@
+-- `base`, `factor`, `sequence` and `past` meet their contracts: a law of WalkLaws for each way out. What falls is the code left, and then the level.
+-- Assumes nothing.
 use mathlib.Core.Path.{sym, _∙_}
 use Prim.Native.Nat.{_-_, _+_, _*_}
 use lib.ListN.{length}

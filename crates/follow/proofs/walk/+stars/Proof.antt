@@ -1,8 +1,9 @@
+-- `stars` meets its contract: a law of StarLaws for each way out. What falls is the code left.
+-- Assumes nothing.
 use Prim.Native.Nat.{_-_}
 use lib.ListN.{length}
 use Rattle.follow.proofs.StarLaws.{stars-none, stars-stop, stars-more}
 use borrow.Author.Needs.{needs}
-use native.Mathlib.Omega.{arith}
 use Prim.Native.Nat.{ℕ, _<_}
 use borrow.Fn.Kinds.{In}
 use borrow.Fn.PlainCycle.{Measures, is, falls, and}

@@ -3,11 +3,9 @@
 use mathlib.Core.Path.{refl}
 use lib.Dec.{eqb}
 use Rattle.lexer.proofs.Bools.{or-false}
-use borrow.Author.Tests.{lt-ltb, le-ltb, eq-eqb, ne-eqb}
+use borrow.Author.Tests.{eq-eqb, ne-eqb}
 use Rattle.follow.proofs.walk.starts.Statement.{statement}
 use Rattle.follow.proofs.walk.starts.Tie as tie
-use Rattle.follow.proofs.walk.starts.Reads as reads
-use Rattle.follow.proofs.walk.starts.Lts as lts
 
 returns : tie.Need-returns
 returns c = simp (eq-eqb _ _ (c .if1 .taken))
