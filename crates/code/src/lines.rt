@@ -84,9 +84,9 @@ pub fn rule_line(text: &[u8], names: &[u64]) -> RuleLine
 pub fn role_line(text: &[u8], names: &[u64]) -> RoleLine
     ensures { λ r. ⌜ RoleRead (now (names .entry)) (now (text .entry)) r ⌝ }
 {
-    let named = after_first(text);
-    let name = leading(named);
-    let under = after_first(named);
+    let second = after_first(text);
+    let name = leading(second);
+    let under = after_first(second);
     let parent = names::find(names, leading(after_first(under)));
     RoleLine {
         name: name,
