@@ -8,3 +8,4 @@ pub mod StateLaws
 pub mod SizeLaws
 pub mod RightLaws
 pub mod Following
+pub mod MeaningMap

@@ -7,3 +7,6 @@ pub mod JudgeLaws
 pub mod RoleLaws
 pub mod MeetsLaws
 pub mod TableNames
+pub mod RenameBack
+pub mod RenameNames
+pub mod SpelledNames
