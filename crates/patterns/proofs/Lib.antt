@@ -10,3 +10,4 @@ pub mod TableNames
 pub mod RenameBack
 pub mod RenameNames
 pub mod SpelledNames
+pub mod RenameAgree
