@@ -9,3 +9,4 @@ pub mod SizeLaws
 pub mod RightLaws
 pub mod Following
 pub mod MeaningMap
+pub mod CasesRight

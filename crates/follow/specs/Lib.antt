@@ -3,3 +3,4 @@ pub mod Walked
 pub mod Rules
 pub mod State
 pub mod Follows
+pub mod Cases
