@@ -1,3 +1,4 @@
 pub mod ColumnLaws
 pub mod NameLaws
 pub mod PlaceLaws
+pub mod UnpackedLaws

@@ -1,3 +1,4 @@
 pub mod Name
 pub mod Shape
 pub mod Place
+pub mod Unpacked

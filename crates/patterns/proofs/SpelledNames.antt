@@ -105,11 +105,10 @@ unfolding spellLine spellTail ruleNames
 spelled-wordy (role w p) h = (h .1 .0, (h .1 .1 .1 .0, tt))
 spelled-wordy (rule w p t x) h =
     let g = h .1 .1 in
-    let b = back (spellPast p) (mark 59 ∷ (spellPattern t ++ (mark 59 ∷ spellResponse x))) g in
-    (
+    let b = back (spellPast p) (mark 59 ∷ (spellPattern t ++ (mark 59 ∷ spellResponse x))) g in (
       h .1 .0,
       all-join Wordy (pastNames p) (patternNames t ++ responseNames x) (past-wordy p (front (spellPast p) (mark 59 ∷ (spellPattern t ++ (mark 59 ∷ spellResponse x))) g))
-      (all-join Wordy (patternNames t) (responseNames x) (pattern-wordy t (front (spellPattern t) (mark 59 ∷ spellResponse x) b)) (response-wordy x (back (spellPattern t) (mark 59 ∷ spellResponse x) b))),
+          (all-join Wordy (patternNames t) (responseNames x) (pattern-wordy t (front (spellPattern t) (mark 59 ∷ spellResponse x) b)) (response-wordy x (back (spellPattern t) (mark 59 ∷ spellResponse x) b))),
     )
 spelled-wordy (event ws) h = names-wordy ws h
 

@@ -1,0 +1,105 @@
+-- Laws of the bytes of a packed name: at most eight, and those of the name that was packed.
+-- Assumes nothing.
+use mathlib.Core.Path.{_≡_, refl, ap, _∙_}
+use mathlib.Core.Bool.{Bool, cond, not}
+use mathlib.Core.List.{List, [], _∷_, map}
+use Prim.Native.Nat.{ℕ, zero, suc, _<_, _≤_}
+use native.Mathlib.Omega.{arith}
+use lib.ListN.{length, getD}
+use borrow.Author.Tests.{ne-eqb}
+use Rattle.lexer.specs.Run.{run}
+use Rattle.lexer.specs.Words.{kindOf, nameK}
+use Rattle.lexer.proofs.RunLaws.{run-length}
+use Rattle.lexer.proofs.WordLaws.{Wordy}
+use Rattle.names.specs.Name.{columnOf, packed, columnAt}
+use Rattle.names.specs.Shape.{Packable}
+use Rattle.names.specs.Unpacked.{inked, columnsOf, unpacked}
+use Rattle.names.proofs.ColumnLaws.{column-packed}
+use Rattle.names.proofs.NameLaws.{name-packable}
+
+-- a packed name has at most eight bytes, whatever number it is
+pub unpacked-length : (n : ℕ) → length (unpacked n) ≤ 8
+unfolding unpacked
+unpacked-length n = run-length inked (columnsOf n)
+
+-- the first k columns of a word
+columns : ℕ → List ℕ → List ℕ
+columns zero w = []
+columns (suc k) [] = 32 ∷ columns k []
+columns (suc k) (b ∷ w) = b ∷ columns k w
+
+-- the run up to a space is the word
+run-columns : (k : ℕ) (w : List ℕ) → length w ≤ k → ((i : ℕ) → i < length w → getD w i 32 ≡ 32 → ⊥) → run inked (columns k w) ≡ w
+unfolding columns run inked
+run-columns zero [] l h = refl
+run-columns zero (b ∷ w) l h = absurd (omega arith)
+run-columns (suc k) [] l h = refl
+run-columns (suc k) (b ∷ w) l h =
+    ap (λ (q : Bool). cond (not q) (b ∷ run inked (columns k w)) []) (ne-eqb b 32 (h 0 (omega arith)))
+    ∙ ap (λ (v : List ℕ). b ∷ v) (run-columns k w (omega arith) (λ i m. h (suc i) (omega arith)))
+
+eight-columns : (w : List ℕ) → columnOf w 0 ∷ columnOf w 1 ∷ columnOf w 2 ∷ columnOf w 3 ∷ columnOf w 4 ∷ columnOf w 5 ∷ columnOf w 6 ∷ columnOf w 7 ∷ [] ≡ columns 8 w
+unfolding columnOf columns
+eight-columns [] = refl
+eight-columns (a ∷ []) = refl
+eight-columns (a ∷ b ∷ []) = refl
+eight-columns (a ∷ b ∷ c ∷ []) = refl
+eight-columns (a ∷ b ∷ c ∷ d ∷ []) = refl
+eight-columns (a ∷ b ∷ c ∷ d ∷ e ∷ []) = refl
+eight-columns (a ∷ b ∷ c ∷ d ∷ e ∷ f ∷ []) = refl
+eight-columns (a ∷ b ∷ c ∷ d ∷ e ∷ f ∷ g ∷ []) = refl
+eight-columns (a ∷ b ∷ c ∷ d ∷ e ∷ f ∷ g ∷ h ∷ w) = refl
+
+module _ (w : List ℕ) (h : Packable w) where
+  columns-packed : columnsOf (packed w) ≡ columns 8 w
+  columns-packed =
+      let p = column-packed w (h .bytes) in
+      let p₀ = p 0 (omega arith) in
+      let p₁ = p 1 (omega arith) in
+      let p₂ = p 2 (omega arith) in
+      let p₃ = p 3 (omega arith) in
+      let p₄ = p 4 (omega arith) in
+      let p₅ = p 5 (omega arith) in
+      let p₆ = p 6 (omega arith) in
+      let p₇ = p 7 (omega arith) in
+      (λ i. p₀ i ∷ p₁ i ∷ p₂ i ∷ p₃ i ∷ p₄ i ∷ p₅ i ∷ p₆ i ∷ p₇ i ∷ []) ∙ eight-columns w
+
+  -- what is read from a packed name is the name
+  pub unpacked-packed : unpacked (packed w) ≡ w
+  unfolding unpacked columnOf
+  unpacked-packed = ap (run inked) columns-packed ∙ run-columns 8 w (h .short) (h .spaceless)
+
+-- "A name is a word of 1 to 8 bytes": its bytes are read back whole
+pub unpacked-name : (w : List ℕ) → kindOf w ≡ nameK → Wordy w → unpacked (packed w) ≡ w
+unpacked-name w k h = unpacked-packed w (name-packable w k h)
+
+-- words that their eight columns show whole
+abbrev pub Packables : List (List ℕ) → Type 0
+Packables [] = Unit {0}
+Packables (w ∷ ws) = Packable w × Packables ws
+
+pub unpacked-all : (ws : List (List ℕ)) → Packables ws → map unpacked (map packed ws) ≡ ws
+unpacked-all [] h = refl
+unpacked-all (w ∷ ws) h = λ i. unpacked-packed w (h .0) i ∷ unpacked-all ws (h .1) i
+
+-- `-` stands where a reply has no name
+pub dash-packable : Packable (45 ∷ [])
+unfolding columnOf
+dash-packable = record { bytes = record { byte = small }; short = omega arith; spaceless = inside }
+  where
+    small : (i : ℕ) → getD {A = ℕ} (45 ∷ []) i 32 < 256
+    small zero = omega arith
+    small (suc i) = omega arith
+
+    inside : (i : ℕ) → i < 1 → getD {A = ℕ} (45 ∷ []) i 32 ≡ 32 → ⊥
+    inside zero l e = omega arith
+    inside (suc i) l e = omega arith
+
+-- its number, and the bytes read back
+pub dash-packed : packed (45 ∷ []) ≡ 3251634253311516704
+unfolding packed columnOf
+dash-packed = refl
+
+pub dash-unpacked : unpacked 3251634253311516704 ≡ 45 ∷ []
+unfolding unpacked inked run columnAt
+dash-unpacked = refl

@@ -1,0 +1,5 @@
+pub mod Reply
+pub mod Kinds
+pub mod Writing
+pub mod Columns
+pub mod Printed

@@ -1,0 +1,23 @@
+-- The 50 bytes of a reply. Document 01, "Reply, 50 bytes".
+-- Assumes nothing.
+use mathlib.Core.List.{List, [], _∷_, _++_}
+use Prim.Native.Nat.{ℕ, _+_, _/_, _%_}
+use lib.ListN.{take, replicate}
+
+-- "padded with spaces" to k columns
+unfoldable pub padded : ℕ → List ℕ → List ℕ
+padded k w = take k (w ++ replicate k 32)
+
+-- "the committed role names with one space between"
+unfoldable pub spaced : List (List ℕ) → List ℕ
+spaced [] = []
+spaced (n ∷ []) = n
+spaced (n ∷ (m ∷ e)) = n ++ (32 ∷ spaced (m ∷ e))
+
+-- the name where there is none: "else `-`"
+abbrev pub dash : List ℕ
+dash = 45 ∷ []
+
+-- column 0, a letter; columns 2 and 3, "two digits"; columns 5 to 12, a name; columns 14 to 48, a text; "Columns 1, 4 and 13 are spaces, column 49 the newline."
+unfoldable pub replyBytes : ℕ → ℕ → List ℕ → List ℕ → List ℕ
+replyBytes letter n name text = letter ∷ 32 ∷ (n / 10 + 48) ∷ (n % 10 + 48) ∷ 32 ∷ (padded 8 name ++ (32 ∷ (padded 35 text ++ (10 ∷ []))))
