@@ -1,0 +1,14 @@
+pub mod Held
+pub mod Working
+pub mod Rows
+pub mod Decided
+pub mod Numbers
+pub mod Agree
+pub mod Whole
+pub mod Kept
+pub mod Marks
+pub mod Demands
+pub mod Replies
+pub mod Meaning
+pub mod Examples
+pub mod Cases

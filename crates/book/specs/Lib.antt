@@ -1,0 +1,11 @@
+pub mod Names
+pub mod Decide
+pub mod Book
+pub mod Tracked
+pub mod Session
+pub mod Rows
+pub mod Working
+pub mod Kept
+pub mod Text
+pub mod Examples
+pub mod Cases

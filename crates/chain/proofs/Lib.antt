@@ -1,0 +1,10 @@
+pub mod Capped
+pub mod FillLaws
+pub mod RespondLaws
+pub mod FindLaws
+pub mod StepLaws
+pub mod RunLaws
+pub mod ReadyLaws
+pub mod WorkMap
+pub mod RowLaws
+pub mod Examples

@@ -1,0 +1,50 @@
+-- The responses worked, in order. Document 02, C-16: "Below an act stands one row for each response worked, in order".
+-- Assumes nothing.
+use mathlib.Core.Bool.{Bool, cond}
+use mathlib.Core.List.{List, [], _∷_}
+use mathlib.Core.Option.{Option, none, some}
+use Prim.Native.Nat.{ℕ, zero, suc, _-_}
+use Rattle.grammar.specs.Trees.{Response, pass, hold, send, anew}
+use Rattle.patterns.specs.Meets.{Order}
+use Rattle.chain.specs.Work.{Duty, fill, chain}
+use Rattle.chain.specs.Responses.{wordOf}
+use Rattle.chain.specs.Steps.{Stand}
+use Rattle.chain.specs.declared.responses.Word.{Word}
+
+-- a response worked: its rule, "the response's four-letter word", "the act as it reached that rule"
+pub record Row (N R : Type 0) : Type 0 where
+  pub rule : R
+  pub word : Word
+  pub event : List N
+
+module _ {N R : Type 0} where
+  abbrev pub ifFit : (List N → List (Row N R)) → Option (List N) → List (Row N R)
+  ifFit go none = []
+  ifFit go (some e) = go e
+
+  -- the rows after a response; look, go and rest as in `respond`
+  abbrev pub rowsAfter : (List N → List (Duty N R)) → (List (Duty N R) → List N → List (Row N R)) → List (Duty N R) → List N → Response N → List (Row N R)
+  rowsAfter look go rest e pass = go rest e
+  rowsAfter look go rest e hold = []
+  rowsAfter look go rest e (send xs) = ifFit (λ x. go rest x) (fill e xs)
+  rowsAfter look go rest e (anew xs) = ifFit (λ x. go (look x) x) (fill e xs)
+
+  abbrev pub rowOf : Duty N R → List N → Row N R
+  rowOf d e = record { rule = d .rule; word = wordOf (d .response); event = e }
+
+  -- the rows of a chain, as `work` works it
+  unfoldable pub rows : (List N → List (Duty N R)) → ℕ → List (Duty N R) → List N → List (Row N R)
+  rows look zero c e = []
+  rows look (suc k) [] e = []
+  rows look (suc k) (d ∷ rest) e = rowOf d e ∷ rowsAfter look (λ c x. rows look k c x) rest e (d .response)
+
+  -- the rows below an event
+  unfoldable pub rowsEvent : Order N → List (Duty N R) → List N → List (Row N R)
+  rowsEvent o ds e = rows (λ x. chain o ds x) 64 (chain o ds e) e
+
+-- the rows still to come
+abbrev pub rowsFrom : (List ℕ → List (Duty ℕ ℕ)) → Stand → List (Row ℕ ℕ)
+rowsFrom look s = rows look (64 - s .worked) (s .rest) (s .event)
+
+abbrev pub onlyGoing : Bool → List (Row ℕ ℕ) → List (Row ℕ ℕ)
+onlyGoing going l = cond going l []

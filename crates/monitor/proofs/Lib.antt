@@ -1,0 +1,16 @@
+pub mod AnswerLaws
+pub mod CallLaws
+pub mod EventAnswers
+pub mod EventLaws
+pub mod KeptCommit
+pub mod KeptRole
+pub mod KeptRule
+pub mod LineLaws
+pub mod Lists
+pub mod Naming
+pub mod RoleLaws
+pub mod RuleLaws
+pub mod SaidNames
+pub mod Taken
+pub mod WorkLaws
+pub mod WholeSession

@@ -1,0 +1,181 @@
+-- A rule line's answer is the machine's.
+-- Assumes nothing.
+use mathlib.Core.Path.{_≡_, refl, sym, ap, _∙_, subst}
+use mathlib.Core.Bool.{Bool, true, false, not, cond}
+use mathlib.Core.List.{List, [], _∷_, map}
+use mathlib.Core.Option.{some}
+use Prim.Native.Nat.{ℕ, zero, suc, _≤_, _<_}
+use native.Mathlib.Omega.{arith}
+use lib.Dec.{leb, ltb}
+use lib.ListN.{length, take}
+use borrow.Author.Tests.{ltb-true, leb-true}
+use Rattle.lexer.specs.Words.{same}
+use Rattle.grammar.specs.AsRead.{Past, Pattern, Response, Template, named, place, pass, hold, send, anew, rule}
+use Rattle.grammar.specs.Rename.{mapPast, mapPattern, mapSlots, mapResponse}
+use Rattle.grammar.specs.Names.{pastNames, patternNames, responseNames, ruleNames}
+use Rattle.grammar.specs.Size.{sizePast}
+use Rattle.grammar.specs.Valid.{ValidSlots, ValidResponse, ValidLine}
+use Rattle.grammar.specs.Lines.{Says}
+use Rattle.grammar.proofs.RenameLaws.{size-map}
+use Rattle.code.specs.Code.{idOf}
+use Rattle.code.specs.Count.{limit}
+use Rattle.code.specs.Lines.{RuleTold, RuleRead}
+use Rattle.code.specs.declared.lines.RuleLine.{RuleLine}
+use Rattle.patterns.specs.All.{All}
+use Rattle.patterns.specs.Roles.{allHeld}
+use Rattle.patterns.proofs.MeetsLaws.{all-left, all-right}
+use Rattle.patterns.proofs.RenameNames.{all-join, past-all, pattern-all, response-all}
+use Rattle.patterns.proofs.RenameBack.{past-back, pattern-back, response-back}
+use Rattle.follow.specs.Rules.{Tree}
+use Rattle.follow.specs.State.{capped, maxRoles, maxRules, isTaken, addRule, refuse, taken, declareRule, RuleDeclared}
+use Rattle.follow.specs.declared.rules.Rule as kept
+use Rattle.follow.specs.declared.state.Follower.{Follower}
+use Rattle.follow.specs.declared.declare.Declared.{Declared}
+use Rattle.chain.specs.Duties.{Short}
+use Rattle.book.specs.Names.{Name, Rule}
+use Rattle.book.specs.Decide.{newRule, isFree, decideLine, answer}
+use Rattle.book.specs.Tracked.{Tracked, trackDuty, trackNext}
+use Rattle.monitor.specs.Represents.{nameAt, NameWord, Sized, Represents}
+use Rattle.monitor.specs.Answers.{finished, Answers, lineDecided, RuleAnswered}
+use Rattle.monitor.specs.declared.answers.Answered.{Answered}
+use Rattle.monitor.proofs.Lists.{all-more}
+use Rattle.monitor.proofs.Naming.{table-long}
+use Rattle.monitor.proofs.SaidNames.{said-names}
+use Rattle.monitor.proofs.Taken as names
+use Rattle.monitor.proofs.Taken.{taken-is, lacks-is, all-found, rules-length}
+use Rattle.monitor.proofs.KeptRule.{kept-rule}
+use Rattle.monitor.proofs.AnswerLaws.{refusing, taking, finished-unchanged}
+
+slots-short : (k : ℕ) (f : Name → ℕ) (xs : Template) → ValidSlots k xs → length (mapSlots f xs) ≤ k
+unfolding ValidSlots mapSlots
+slots-short k f [] h = omega arith
+slots-short zero f (x ∷ xs) h = absurd h
+slots-short (suc k) f (named w ∷ xs) h = let l = slots-short k f xs (h .1) in omega arith
+slots-short (suc k) f (place n ∷ xs) h = let l = slots-short k f xs (h .1) in omega arith
+
+response-short : (f : Name → ℕ) (x : Response) → ValidResponse x → Short (mapResponse f x)
+unfolding ValidResponse mapResponse
+response-short f pass h = tt
+response-short f hold h = tt
+response-short f (send xs) h = slots-short 4 f xs h
+response-short f (anew xs) h = slots-short 4 f xs h
+
+valid-response : (w : Name) (p : Past) (q : Pattern) (x : Response) → ValidLine (rule w p q x) → ValidResponse x
+unfolding ValidLine
+valid-response w p q x h = h .1 .1 .1
+
+rule-steady : (f : Follower) (l : RuleLine) (r : kept.Rule) → (declareRule f l r .number ≡ 0 → ⊥) → declareRule f l r .follower ≡ f
+unfolding declareRule
+rule-steady f l r = go (isTaken f (l .name)) (l .body .unknown) (l .fits) (ltb (f .count) maxRules)
+  where
+    go : (a b c d : Bool) → ((cond a (refuse f 5) (cond b (refuse f 6) (cond c (cond d (taken (addRule f r)) (refuse f 8)) (refuse f 7)))) .number ≡ 0 → ⊥)
+        → (cond a (refuse f 5) (cond b (refuse f 6) (cond c (cond d (taken (addRule f r)) (refuse f 8)) (refuse f 7)))) .follower ≡ f
+    go true b c d h = refl
+    go false true c d h = refl
+    go false false false d h = refl
+    go false false true false h = refl
+    go false false true true h = absurd (h refl)
+
+module _ (f : Follower) (z : Sized f) (s : List ℕ) (l : RuleLine) (read : RuleRead (take (capped maxRoles (f .roles)) (f .names)) s l) (c : Declared) (made : RuleDeclared f l c) where
+  module _ (t : Tracked) (rep : Represents f t) (fits : length s ≤ 126) (w : Name) (p : Past) (q : Pattern) (x : Response) (says : Says s (rule w p q x)) where
+    abbrev table : List ℕ
+    table = take (capped maxRoles (f .roles)) (f .names)
+
+    told : RuleTold table w p q x l
+    told = read .right fits (omega (arith, table-long f z (rep .naming), rep .naming .few)) w p q x says
+
+    words : All NameWord (ruleNames p q x)
+    words = said-names s (rule w p q x) says .1
+
+    word : NameWord w
+    word = said-names s (rule w p q x) says .0
+
+    is-taken : isTaken f (l .name) ≡ not (isFree (t .roles) (map trackDuty (t .rules)) w)
+    is-taken = ap (isTaken f) (told .name) ∙ taken-is f z t rep w word
+
+    is-unknown : l .body .unknown ≡ not (allHeld same (t .roles) (ruleNames p q x))
+    is-unknown = told .unknown ∙ lacks-is f z t rep (ruleNames p q x) words
+
+    has-room : ltb (f .count) maxRules ≡ ltb (length (map trackDuty (t .rules))) maxRules
+    has-room = ap (λ (k : ℕ). ltb k maxRules) (sym (rules-length f z t rep))
+
+    -- the rule's tree, with ids
+    abbrev tree : Tree
+    tree = record { past = mapPast (idOf table) p; trigger = mapPattern (idOf table) q; response = mapResponse (idOf table) x }
+
+    abbrev Id : ℕ → Type 0
+    Id k = k < f .roles
+
+    abbrev Back : Name → Type 0
+    Back v = nameAt f (idOf table v) ≡ v
+
+    module _ (found : All (names.Found f z t rep) (ruleNames p q x)) where
+      ids : All Id (ruleNames (tree .past) (tree .trigger) (tree .response))
+      unfolding ruleNames
+      ids =
+          let F : Name → Type 0 = names.Found f z t rep in
+          let one : (v : Name) → F v → Id (idOf table v) = λ v k. k .0 in
+          let late = all-right F (pastNames p) _ found in
+          all-join Id (pastNames (tree .past)) _ (past-all (idOf table) F Id one p (all-left F (pastNames p) _ found))
+          (all-join Id (patternNames (tree .trigger)) (responseNames (tree .response)) (pattern-all (idOf table) F Id one q (all-left F (patternNames q) (responseNames x) late))
+          (response-all (idOf table) F Id one x (all-right F (patternNames q) (responseNames x) late)))
+
+      backs : All Back (ruleNames p q x)
+      backs = all-more (names.Found f z t rep) Back (λ v k. k .1) (ruleNames p q x) found
+
+      kept-tree : sizePast p ≤ limit → ltb (f .count) maxRules ≡ true
+          → Represents (addRule f (made .rule)) (trackNext t (newRule (record { name = w; past = p; trigger = q; response = x })))
+      unfolding ruleNames
+      kept-tree small room =
+          let late = all-right Back (pastNames p) _ backs in
+          kept-rule f z t rep (made .rule) tree (made .compiled .right tree (record { fits = read .small; is = told .code })) ids
+          (response-short (idOf table) x (valid-response w p q x (says .valid))) (subst (λ (k : ℕ). k ≤ limit) (sym (size-map (idOf table) p)) small)
+          (record { name = w; past = p; trigger = q; response = x }) (made .compiled .named ∙ told .name) word
+          (sym (past-back (idOf table) (nameAt f) p (all-left Back (pastNames p) _ backs)))
+          (sym (pattern-back (idOf table) (nameAt f) q (all-left Back (patternNames q) (responseNames x) late)))
+          (sym (response-back (idOf table) (nameAt f) x (all-right Back (patternNames q) (responseNames x) late)))
+          (ltb-true (f .count) maxRules room)
+
+    abbrev Told : Type 0
+    Told = Answers t (lineDecided t (some (rule w p q x))) (finished c (l .name))
+
+    abbrev free : Bool
+    free = isFree (t .roles) (map trackDuty (t .rules)) w
+
+    abbrev all : Bool
+    all = allHeld same (t .roles) (ruleNames p q x)
+
+    abbrev few : Bool
+    few = leb (sizePast p) limit
+
+    abbrev room : Bool
+    room = ltb (length (map trackDuty (t .rules))) maxRules
+
+    rule-taken : free ≡ true → all ≡ true → few ≡ true → room ≡ true → Told
+    unfolding decideLine declareRule answer
+    rule-taken a b d e =
+        let kept = kept-tree (all-found f z t rep (ruleNames p q x) words b) (leb-true (sizePast p) limit d) (has-room ∙ e) in
+        taking t (lineDecided t (some (rule w p q x))) c (l .name) (addRule f (made .rule)) w word (told .name)
+        (rw (a, b, d, e) (λ y. refl))
+        (rw (a, b, d, e) kept)
+        (made .is ∙ rw (is-taken ∙ ap not a, is-unknown ∙ ap not b, told .fits ∙ d, has-room ∙ e) refl)
+
+    rule-right : Told
+    unfolding decideLine declareRule
+    rule-right = go free all few room refl refl refl refl
+      where
+        go : (i j k m : Bool) → free ≡ i → all ≡ j → few ≡ k → room ≡ m → Told
+        go false j k m a b d e = refusing t _ _ _ f 5 refl refl rep (rw a refl) (made .is ∙ rw (is-taken ∙ ap not a) refl)
+        go true false k m a b d e = refusing t _ _ _ f 6 refl refl rep (rw (a, b) refl) (made .is ∙ rw (is-taken ∙ ap not a, is-unknown ∙ ap not b) refl)
+        go true true false m a b d e = refusing t _ _ _ f 7 refl refl rep (rw (a, b, d) refl) (made .is ∙ rw (is-taken ∙ ap not a, is-unknown ∙ ap not b, told .fits ∙ d) refl)
+        go true true true false a b d e =
+            refusing t _ _ _ f 8 refl refl rep (rw (a, b, d, e) refl) (made .is ∙ rw (is-taken ∙ ap not a, is-unknown ∙ ap not b, told .fits ∙ d, has-room ∙ e) refl)
+        go true true true true a b d e = rule-taken a b d e
+
+  pub rule-answered : (r : Answered) → r ≡ finished c (l .name) → RuleAnswered f s r
+  rule-answered r e =
+      rw e
+      record {
+        unchanged = finished-unchanged f c (l .name) (subst (λ (d : Declared). (d .number ≡ 0 → ⊥) → d .follower ≡ f) (sym (made .is)) (rule-steady f l (made .rule)));
+        right = λ t rep k w p q x says. rule-right t rep k w p q x says;
+      }

@@ -1,0 +1,50 @@
+-- `rule_answer` meets its contract.
+-- Assumes nothing.
+use mathlib.Core.Path.{_≡_, sym}
+use borrow.Author.Needs.{needs}
+use lib.ListN.{length}
+use lib.Seq.{length-take-le}
+use Rattle.follow.proofs.CommitLaws.{length-mapped}
+use Rattle.monitor.specs.Represents.{Sized}
+use Rattle.monitor.proofs.RuleLaws.{rule-answered}
+use Rattle.monitor.proofs.lines.rule_answer.Statement.{statement}
+use Rattle.monitor.proofs.lines.rule_answer.Tie as tie
+use Rattle.monitor.proofs.lines.rule_answer.Reads as reads
+use Rattle.monitor.proofs.lines.rule_answer.Lts as lts
+use Rattle.code.proofs.rule_line.Reads as line-reads
+use Rattle.follow.proofs.declare_rule.Reads as declare-reads
+use Rattle.follow.proofs.state.capped.Reads as capped-reads
+use Rattle.monitor.proofs.answers.finish.Reads as finish-reads
+
+-- the arrays' lengths, by their types
+sized : (c : lts.Start (capped-reads.Asked, capped-reads.Learnt, line-reads.Asked, line-reads.Learnt, declare-reads.Asked, declare-reads.Learnt, finish-reads.Asked, finish-reads.Learnt) reads.Pre reads.Post) → Sized (c .args .f)
+sized c = record { names = search needs; parents = search needs; positions = search needs; rules = search (needs, length-mapped) }
+
+array-share-prefix-names : tie.Need-array-share-prefix-names
+array-share-prefix-names c =
+    let h : length (c .before .before .before .args .f .names) ≡ 64 = search needs in
+    rw h (c .capped .ensures .small)
+
+slice-aggregate-rule-line : tie.Need-slice-aggregate-rule-line
+slice-aggregate-rule-line c =
+    let f = c .before .before .before .before .args .f in
+    let h : length (f .names) ≡ 64 = search needs in
+    sym (length-take-le (c .before .capped .result) (f .names) (rw h (c .before .capped .ensures .small)))
+
+returns : tie.Need-returns
+returns c =
+    let b = c .before .before .before .before in
+    let f = b .before .before .before .args .f in
+    rule-answered f (sized (b .before .before .before)) _ _ (rw (b .capped .ensures .is) at (c .before .before .rule-line .ensures)) _ (c .before .declare-rule .ensures) _ (c .finish .ensures)
+
+pub rule-answer-spec : {M : Type 1} → statement M
+rule-answer-spec =
+    tie.close
+    (tie.spec
+    (λ c κs. search needs)
+    array-share-prefix-names
+    slice-aggregate-rule-line
+    (λ c κs. search needs)
+    (λ c κs. search needs)
+    (λ c κs. search needs)
+    returns)
