@@ -1,13 +1,15 @@
 #!/usr/bin/env bash
-# The reader demo: proves the readers, then shows what became of each line of a sample file of records.
-# usage: ./demo.sh [FILE]   (default: crates/reading/data/texts.txt)
+# Proves the session program, runs a session through it and shows each record's text with its reply.
+# usage: ./demo.sh [FILE]   (a record a line, as `Lrole lamp under top` or `Euv`; default: document 01's printed session)
 set -eu
-file=$(realpath "${1:-"$(dirname "$0")/crates/reading/data/texts.txt"}")
+file=$(realpath "${1:-"$(dirname "$0")/crates/session/data/session.txt"}")
 cd "$(dirname "$0")"
-rt check reading > /dev/null || { rt check reading; exit 1; }
-bin=$PWD/target/bin/reading
+rt check session > /dev/null || { rt check session; exit 1; }
+bin=$PWD/target/bin/session
 work=$(mktemp -d)
 trap 'rm -rf "$work"' EXIT
-cp "$file" "$work/texts.txt"
 cd "$work"
-"$bin"
+# a record is 128 bytes: the line, spaces, and the newline
+while IFS= read -r line || [ -n "$line" ]; do printf '%-127s\n' "$line"; done < "$file" > session.rec
+"$bin" > replies
+sed 's/^/> /' "$file" | paste -d '\n' - replies
