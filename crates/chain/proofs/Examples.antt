@@ -1,7 +1,7 @@
 -- Document 01's printed runs, computed by the definition. Roles: 2 uv, 3 expose, others from 4 on. Rules are numbered in declared order.
 -- Assumes nothing.
 use mathlib.Core.Path.{_≡_, refl}
-use mathlib.Core.Bool.{true, false}
+use mathlib.Core.Bool.{true}
 use mathlib.Core.List.{List, [], _∷_, _++_}
 use Prim.Native.Nat.{ℕ, suc}
 use lib.ListN.{replicate}
@@ -11,11 +11,11 @@ use Rattle.patterns.specs.Judged.{orderIn}
 use Rattle.chain.specs.Work.{Outcome, committed, held, unfit, tooLong, Duty, fillSlot, fill, chain, respond, work, workEvent}
 
 -- a rule whose past matches now
-pub record Given : Type 0 where
+pub record Matched : Type 0 where
   pub trigger : Pattern ℕ
   pub response : Response ℕ
 
-abbrev rule : Pattern ℕ → Response ℕ → Given
+abbrev rule : Pattern ℕ → Response ℕ → Matched
 rule t x = record { trigger = t; response = x }
 
 abbrev always : Pattern ℕ
@@ -28,17 +28,17 @@ abbrev exposeUv : Pattern ℕ
 exposeUv = plain (items (item (exact 3) (item (exact 2) close)))
 
 -- rules in declared order, numbered from i on, turned round
-abbrev declared : ℕ → List Given → List (Duty ℕ ℕ) → List (Duty ℕ ℕ)
+abbrev declared : ℕ → List Matched → List (Duty ℕ ℕ) → List (Duty ℕ ℕ)
 declared i [] ds = ds
 declared i (g ∷ gs) ds = declared (suc i) gs (record { rule = i; matched = true; trigger = g .trigger; response = g .response } ∷ ds)
 
-abbrev run : List Given → List ℕ → Outcome ℕ ℕ
+abbrev run : List Matched → List ℕ → Outcome ℕ ℕ
 run gs e = workEvent (orderIn []) (declared 0 gs []) e
 
-abbrev sends : Given
+abbrev sends : Matched
 sends = rule expose (send (named 3 ∷ named 2 ∷ []))
 
-abbrev asks : Given
+abbrev asks : Matched
 asks = rule expose (anew (named 3 ∷ named 2 ∷ []))
 
 -- "act expose gives C 02, expose uv"
@@ -61,7 +61,7 @@ pub lone : run (rule expose (anew (place 1 ∷ [])) ∷ []) (3 ∷ []) ≡ tooLo
 unfolding workEvent work respond chain fill fillSlot meets itemsMeet
 lone = refl
 
-abbrev hop : ℕ → Given
+abbrev hop : ℕ → Matched
 hop r = rule (plain (items (item (exact r) close))) (anew (named (suc r) ∷ []))
 
 -- "Four anew hops through five roles, then 12 pass rules on any: C 64."
@@ -80,7 +80,7 @@ unfolding workEvent work respond chain fill fillSlot meets itemsMeet
 beyond = refl
 
 -- the 64th response may hold or be unfit: 15 passes before each of three hops, and before the last rule
-abbrev hops : Response ℕ → List Given
+abbrev hops : Response ℕ → List Matched
 hops x = (hop 3 ∷ hop 4 ∷ hop 5 ∷ rule (plain (items (item (exact 6) close))) x ∷ []) ++ replicate 15 (rule always pass)
 
 pub hold-64 : run (hops hold) (3 ∷ []) ≡ held 3 64

@@ -11,14 +11,14 @@ use Rattle.lexer.proofs.Bools.{true-not-false}
 use Rattle.grammar.specs.Trees.{Slot, named, place, Template}
 use Rattle.code.specs.Trees.{codeSlots}
 use Rattle.patterns.proofs.Here as at
-use Rattle.patterns.proofs.Here.{Here, here}
+use Rattle.patterns.proofs.Here.{here}
 use Rattle.follow.specs.State.{capped, eventOf}
 use Rattle.follow.specs.declared.state.Event.{Event}
 use Rattle.chain.specs.Work.{fillSlot, consFilled, fill}
 use Rattle.chain.specs.Responses.{optional, behind, SlotRead, FillRead, TemplateRead}
 use Rattle.chain.specs.declared.responses.Picked.{Picked}
 use Rattle.chain.specs.declared.responses.Filled.{Filled}
-use Rattle.chain.proofs.Capped.{capped-small, with, more-roles}
+use Rattle.chain.proofs.Capped.{with, more-roles}
 
 beyond-length : (l : List ℕ) (i : ℕ) → length l ≤ i → getElem? l i ≡ none
 beyond-length [] i h = refl

@@ -3,13 +3,13 @@
 use mathlib.Core.Path.{_≡_, refl, sym, ap, _∙_}
 use mathlib.Core.Bool.{Bool, true, false, cond, _&&_}
 use mathlib.Core.List.{List, [], _∷_}
-use Prim.Native.Nat.{ℕ, zero, suc, _+_, _-_, _<_, _≤_}
+use Prim.Native.Nat.{ℕ, zero, suc, _-_, _<_, _≤_}
 use native.Mathlib.Omega.{arith}
 use lib.ListN.{length, getD, drop, take}
 use borrow.Author.Tests.{lt-ltb, le-ltb}
 use Rattle.lexer.proofs.Bools.{true-not-false}
 use Rattle.code.specs.Trees.{codePattern, codeResponse}
-use Rattle.patterns.specs.Meets.{Order, meets}
+use Rattle.patterns.specs.Meets.{meets}
 use Rattle.patterns.specs.Judged.{orderIn, PatternRead}
 use Rattle.patterns.specs.declared.judge.Judged.{Judged}
 use Rattle.patterns.proofs.Here.{beyond}
@@ -18,9 +18,7 @@ use Rattle.follow.specs.declared.rules.Rule.{Rule}
 use Rattle.follow.specs.declared.state.Follower.{Follower}
 use Rattle.follow.proofs.CommitLaws.{getD-any}
 use Rattle.chain.specs.Work.{Duty, chain}
-use Rattle.chain.specs.Duties.{dutiesOf}
-use Rattle.chain.specs.Steps.{isDue, Holds, Kept, DueRead, chainOf, IsNext, FoundRead}
-use Rattle.chain.specs.declared.steps.Found.{Found}
+use Rattle.chain.specs.Steps.{isDue, Holds, Kept, DueRead, chainOf, FoundRead}
 
 module _ (rule : Rule) (p : ℕ) (looked ps : List ℕ) where
   pub due-long : 126 < rule .len → DueRead rule p looked ps (record { end = 0; ok = false })

@@ -5,6 +5,10 @@ pub mod FindLaws
 pub mod StepLaws
 pub mod RunLaws
 pub mod ReadyLaws
-pub mod WorkMap
+pub mod ShortLaws
 pub mod RowLaws
+pub mod NamesIn
+pub mod WorkMap
+pub mod Exchange
 pub mod Examples
+pub mod WorkIn

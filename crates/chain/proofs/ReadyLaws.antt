@@ -10,21 +10,20 @@ use lib.ListN.{length, take, drop, getD, set, length-set}
 use lib.Seq.{getD-set-same, getD-set-other}
 use borrow.Author.Count.{below-more}
 use borrow.Author.Tests.{lt-ltb}
-use Rattle.grammar.specs.Trees.{Pattern}
 use Rattle.code.specs.Trees.{codePattern, codePast, codeTail, codeRule, codeResponse}
 use Rattle.patterns.specs.Judged.{orderIn}
 use Rattle.patterns.proofs.Here.{here, beyond}
 use Rattle.positions.specs.Sets.{shares}
-use Rattle.follow.specs.Rules.{Tree, Keeps}
-use Rattle.follow.specs.State.{capped, maxRules, noRule, matchesAt, eventOf}
+use Rattle.follow.specs.Rules.{Tree}
+use Rattle.follow.specs.State.{capped, noRule, matchesAt, eventOf}
 use Rattle.follow.specs.declared.rules.Rule.{Rule}
 use Rattle.follow.specs.declared.state.Event.{Event}
 use Rattle.follow.specs.declared.state.Follower.{Follower}
 use Rattle.follow.proofs.CommitLaws.{getD-any}
-use Rattle.chain.specs.Work.{Duty, work, workEvent}
-use Rattle.chain.specs.Duties.{Short, rulesHeld, KeepsAll, dutyOf, dutiesOf}
-use Rattle.chain.specs.Steps.{Holds, Kept, Fits, chainOf, standOf, lookOf}
-use Rattle.chain.specs.Runs.{Ends, placeOf, TableRead, fitted, begun, finish, RunRead, WorkedRead}
+use Rattle.chain.specs.Work.{Duty, workEvent}
+use Rattle.chain.specs.Duties.{rulesHeld, KeepsAll, dutyOf, dutiesOf}
+use Rattle.chain.specs.Steps.{Holds, Kept, standOf}
+use Rattle.chain.specs.Runs.{placeOf, TableRead, fitted, begun, finish, RunRead, WorkedRead}
 use Rattle.chain.specs.declared.steps.Work.{Work}
 use Rattle.chain.specs.declared.run.Outcome.{Outcome}
 use Rattle.chain.proofs.Capped.{capped-small, capped-le}
@@ -108,7 +107,7 @@ module _ (f : Follower) (table : List ℕ) (t : TableRead f table) (ts : ℕ →
   duties-kept = record { number = λ i h. refl; each = holds }
 
 -- the event at the beginning, and its whole chain
-begun-event : (e : Event) → eventOf (fitted e) ≡ eventOf e
+pub begun-event : (e : Event) → eventOf (fitted e) ≡ eventOf e
 begun-event e = ap (λ (n : ℕ). take n (e .roles)) (capped-small 4 (capped 4 (e .len)) (capped-le 4 (e .len)))
 
 whole : (f : Follower) (ds : ℕ → Duty ℕ ℕ) (e : Event) → finish f ds (standOf f ds (begun f e)) ≡ workEvent (orderIn (f .parents)) (dutiesOf ds (rulesHeld f)) (eventOf e)

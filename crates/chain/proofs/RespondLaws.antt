@@ -8,7 +8,7 @@ use native.Mathlib.Omega.{arith}
 use lib.ListN.{length, getD, drop, take}
 use Rattle.grammar.specs.Trees.{Template, Response, pass, hold, send, anew}
 use Rattle.code.specs.Trees.{codeSlots, codeResponse}
-use Rattle.patterns.proofs.Here.{Here, none, here}
+use Rattle.patterns.proofs.Here.{none, here}
 use Rattle.follow.specs.State.{eventOf}
 use Rattle.follow.specs.declared.rules.Rule.{Rule}
 use Rattle.follow.specs.declared.state.Event.{Event}
@@ -20,7 +20,8 @@ use Rattle.chain.specs.declared.responses.Word.the-variants.{Pass, Hold,
 use Rattle.chain.specs.declared.responses.Filled.{Filled}
 use Rattle.chain.specs.declared.responses.Given.{Given}
 
-abbrev given : Word → Bool → Event → Given
+-- what a response gives
+abbrev pub given : Word → Bool → Event → Given
 given word ok event = record { word = word; ok = ok; event = event }
 
 module _ (code : List ℕ) (p : ℕ) (event : Event) where

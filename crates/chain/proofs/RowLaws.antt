@@ -6,15 +6,26 @@ use mathlib.Core.List.{List, [], _∷_}
 use mathlib.Core.Option.{Option, none, some}
 use Prim.Native.Nat.{ℕ, zero, suc, _+_, _-_, _<_, _≤_}
 use native.Mathlib.Omega.{arith}
+use lib.Dec.{ltb}
 use lib.ListN.{length}
-use borrow.Author.Tests.{lt-ltb}
+use borrow.Author.Tests.{ltb-true, ltb-false}
 use Rattle.grammar.specs.Trees.{Response, pass, hold, send, anew}
 use Rattle.patterns.specs.Meets.{Order}
-use Rattle.chain.specs.Work.{Outcome, committed, Duty, fill, chain, onward, respond, work, workEvent}
-use Rattle.chain.specs.Steps.{next, unlessUnfit, afterResponse, stepOf, isGoing}
-use Rattle.chain.specs.Runs.{countOf}
-use Rattle.chain.specs.Rows.{Row, ifFit, rowsAfter, rowOf, rows, rowsEvent, rowsFrom, onlyGoing}
+use Rattle.patterns.specs.Judged.{orderIn}
+use Rattle.follow.specs.State.{eventOf}
+use Rattle.follow.specs.declared.state.Event.{Event}
+use Rattle.follow.specs.declared.state.Follower.{Follower}
+use Rattle.chain.specs.Work.{Outcome, Duty, fill, chain, onward, respond, work, workEvent}
+use Rattle.chain.specs.Duties.{rulesHeld, dutiesOf}
+use Rattle.chain.specs.Steps.{Next, next, unlessUnfit, afterResponse, stepOf, Kept, standOf, lookOf, StepRead}
+use Rattle.chain.specs.Runs.{countOf, begun}
+use Rattle.chain.specs.Rows.{Row, ifFit, rowsAfter, rowOf, rows, rowsEvent, rowsFrom, rowsOf, rowAt}
+use Rattle.chain.specs.declared.responses.Word.{Word}
 use Rattle.chain.specs.declared.steps.State.the-variants.{Going, Unfit}
+use Rattle.chain.specs.declared.steps.Work.{Work}
+use Rattle.chain.specs.declared.steps.Stepped.{Stepped}
+use Rattle.chain.proofs.Capped.{capped-small}
+use Rattle.chain.proofs.ReadyLaws.{begun-event}
 
 module _ {N R : Type 0} (look : List N → List (Duty N R)) where
   -- of the work that follows, n responses having been worked
@@ -49,29 +60,61 @@ unfolding workEvent rowsEvent
 rows-counted o ds e = let h = counted (λ x. chain o ds x) 64 (omega arith) (chain o ds e) e in omega (arith, h)
 
 module _ (look : List ℕ → List (Duty ℕ ℕ)) where
+  none-left : (k : ℕ) (e : List ℕ) → rows look k [] e ≡ []
+  unfolding rows
+  none-left zero e = refl
+  none-left (suc k) e = refl
+
+  spent : (k : ℕ) (c : List (Duty ℕ ℕ)) (e : List ℕ) → k ≡ 0 → rows look k c e ≡ []
+  unfolding rows
+  spent k c e q = rw (q) refl
+
   one : (k g : ℕ) (d : Duty ℕ ℕ) (c : List (Duty ℕ ℕ)) (e : List ℕ) → k ≡ suc g
       → rows look k (d ∷ c) e ≡ rowOf d e ∷ rowsAfter look (λ l x. rows look g l x) c e (d .response)
   unfolding rows
   one k g d c e q = rw (q) refl
 
-  fit-rows : (go : List ℕ → List (Duty ℕ ℕ)) (i : ℕ) (c : List (Duty ℕ ℕ)) (e : List ℕ) (n : ℕ) (x : Option (List ℕ))
-      → ifFit (λ y. rows look (64 - n) (go y) y) x
-      ≡ onlyGoing (isGoing (unlessUnfit (λ y. next Going (go y) y n) (next (Unfit i) c e n) x .state))
-      (rowsFrom look (unlessUnfit (λ y. next Going (go y) y n) (next (Unfit i) c e n) x .stand))
-  fit-rows go i c e n none = refl
-  fit-rows go i c e n (some x) = refl
+  -- the row x, and the rows of what follows
+  abbrev Follows : Row ℕ ℕ → List (Row ℕ ℕ) → Next → Type 0
+  Follows x l n = x ∷ l ≡ rowsOf (n .state) x (rowsFrom look (n .stand))
 
-  after-rows : (i : ℕ) (c : List (Duty ℕ ℕ)) (e : List ℕ) (n : ℕ) (x : Response ℕ)
-      → rowsAfter look (λ l y. rows look (64 - n) l y) c e x ≡ onlyGoing (isGoing (afterResponse look i c e n x .state)) (rowsFrom look (afterResponse look i c e n x .stand))
-  after-rows i c e n pass = refl
-  after-rows i c e n hold = refl
-  after-rows i c e n (send xs) = fit-rows (λ y. c) i c e n (fill e xs)
-  after-rows i c e n (anew xs) = fit-rows look i c e n (fill e xs)
+  fit-rows : (x : Row ℕ ℕ) (go : List ℕ → List (Duty ℕ ℕ)) (i : ℕ) (c : List (Duty ℕ ℕ)) (e : List ℕ) (n : ℕ) (m : Option (List ℕ))
+      → Follows x (ifFit (λ y. rows look (64 - n) (go y) y) m) (unlessUnfit (λ y. next Going (go y) y n) (next (Unfit i) c e n) m)
+  fit-rows x go i c e n none = refl
+  fit-rows x go i c e n (some y) = refl
 
-  -- a step that works a response: its row, and then the rows of what it leaves
-  pub next-row : (d : Duty ℕ ℕ) (c : List (Duty ℕ ℕ)) (e : List ℕ) (n : ℕ) → n < 64
-      → rowsFrom look (record { rest = d ∷ c; event = e; worked = n })
-      ≡ rowOf d e ∷ onlyGoing (isGoing (stepOf look (d ∷ c) e n .state)) (rowsFrom look (stepOf look (d ∷ c) e n .stand))
-  next-row d c e n h =
-      rw (lt-ltb n 64 h)
-      (one (64 - n) (64 - (n + 1)) d c e (omega arith) ∙ ap (λ (l : List (Row ℕ ℕ)). rowOf d e ∷ l) (after-rows (d .rule) c e (n + 1) (d .response)))
+  after-rows : (x : Row ℕ ℕ) (i : ℕ) (c : List (Duty ℕ ℕ)) (e : List ℕ) (n : ℕ) (y : Response ℕ)
+      → Follows x (rowsAfter look (λ l z. rows look (64 - n) l z) c e y) (afterResponse look i c e n y)
+  after-rows x i c e n pass = refl
+  after-rows x i c e n hold = refl
+  after-rows x i c e n (send xs) = fit-rows x (λ y. c) i c e n (fill e xs)
+  after-rows x i c e n (anew xs) = fit-rows x look i c e n (fill e xs)
+
+  -- x is the row of the response worked, where one is
+  step-row : (c : List (Duty ℕ ℕ)) (e : List ℕ) (n : ℕ) (x : Row ℕ ℕ) → n ≤ 64 → ((d : Duty ℕ ℕ) (l : List (Duty ℕ ℕ)) → c ≡ d ∷ l → n < 64 → x ≡ rowOf d e)
+      → rows look (64 - n) c e ≡ rowsOf (stepOf look c e n .state) x (rowsFrom look (stepOf look c e n .stand))
+  step-row [] e n x h is = none-left (64 - n) e
+  step-row (d ∷ c) e n x h is = go (ltb n 64) refl
+    where
+      go : (b : Bool) → ltb n 64 ≡ b → rows look (64 - n) (d ∷ c) e ≡ rowsOf (stepOf look (d ∷ c) e n .state) x (rowsFrom look (stepOf look (d ∷ c) e n .stand))
+      go true q =
+          let l = ltb-true n 64 q in
+          rw (q, is d c refl l) (one (64 - n) (64 - (n + 1)) d c e (omega arith) ∙ after-rows (rowOf d e) (d .rule) c e (n + 1) (d .response))
+      go false q = let l = ltb-false n 64 q in rw (q) (spent (64 - n) (d ∷ c) e (omega arith))
+
+-- A step of the code gives the next row, where it works a response; the rows after it are those of the work that it leaves.
+pub step-rows : (f : Follower) (ready : List ℕ) (w : Work) (r : Stepped) → StepRead f ready w r → w .worked ≤ 64
+    → (ds : ℕ → Duty ℕ ℕ) → Kept (f .rules) ready (rulesHeld f) ds
+    → rowsFrom (lookOf f ds) (standOf f ds w) ≡ rowsOf (r .state) (rowAt w r) (rowsFrom (lookOf f ds) (standOf f ds (r .work)))
+step-rows f ready w r s h ds k =
+    step-row (lookOf f ds) (standOf f ds w .rest) (eventOf (w .event)) (w .worked) (rowAt w r) h
+    (λ d c q l. let x = s .row ds k d c q l in row-is _ _ _ _ _ (x .rule) (x .word))
+    ∙ ap (λ (n : Next). rowsOf (n .state) (rowAt w r) (rowsFrom (lookOf f ds) (n .stand))) (sym (s .right ds k))
+  where
+    row-is : (i j : ℕ) (v u : Word) (e : List ℕ) → i ≡ j → v ≡ u → _≡_ {A = Row ℕ ℕ} (record { rule = i; word = v; event = e }) (record { rule = j; word = u; event = e })
+    row-is i j v u e p q = λ t. record { rule = p t; word = q t; event = e }
+
+-- the rows of an event from its beginning
+pub begun-rows : (f : Follower) (ds : ℕ → Duty ℕ ℕ) (e : Event) → rowsFrom (lookOf f ds) (standOf f ds (begun f e)) ≡ rowsEvent (orderIn (f .parents)) (dutiesOf ds (rulesHeld f)) (eventOf e)
+unfolding rowsEvent
+begun-rows f ds e = rw (begun-event e, capped-small (rulesHeld f) (rulesHeld f) (omega arith)) refl

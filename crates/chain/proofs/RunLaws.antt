@@ -1,22 +1,20 @@
 -- Steps make up the work.
 -- Assumes nothing.
-use mathlib.Core.Path.{_≡_, refl, sym, ap, _∙_}
+use mathlib.Core.Path.{_≡_, refl, ap}
 use mathlib.Core.Bool.{Bool, true, false}
 use mathlib.Core.List.{List, [], _∷_}
 use mathlib.Core.Option.{Option, none, some}
-use Prim.Native.Nat.{ℕ, zero, suc, _+_, _-_, _<_, _≤_}
+use Prim.Native.Nat.{ℕ, zero, suc, _+_, _-_, _≤_}
 use native.Mathlib.Omega.{arith}
 use lib.Dec.{ltb}
 use borrow.Author.Tests.{ltb-true, ltb-false}
 use Rattle.lexer.proofs.Bools.{true-not-false}
 use Rattle.grammar.specs.Trees.{Response, pass, hold, send, anew}
-use Rattle.follow.specs.State.{capped, eventOf}
-use Rattle.follow.specs.declared.state.Event.{Event}
 use Rattle.follow.specs.declared.state.Follower.{Follower}
-use Rattle.chain.specs.Work.{Duty, Outcome, committed, held, unfit, tooLong, fill, onward, respond, work}
+use Rattle.chain.specs.Work.{Duty, Outcome, committed, tooLong, fill, onward, respond, work}
 use Rattle.chain.specs.Duties.{rulesHeld}
-use Rattle.chain.specs.Steps.{Stand, Next, next, unlessUnfit, afterResponse, stepOf, isGoing, Kept, Fits, standOf, nextOf, lookOf, stepFrom, StepRead}
-use Rattle.chain.specs.Runs.{endOf, countOf, Ends, finish, RunRead}
+use Rattle.chain.specs.Steps.{Next, next, unlessUnfit, afterResponse, stepOf, isGoing, Kept, Fits, standOf, nextOf, lookOf, StepRead}
+use Rattle.chain.specs.Runs.{endOf, countOf, finish, RunRead}
 use Rattle.chain.specs.declared.steps.State.{State}
 use Rattle.chain.specs.declared.steps.State.the-variants.{Going, Committed, Held, Unfit, TooLong}
 use Rattle.chain.specs.declared.steps.Work.{Work}

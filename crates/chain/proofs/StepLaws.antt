@@ -2,11 +2,10 @@
 -- Assumes nothing.
 use mathlib.Core.Path.{_≡_, refl, sym, ap, _∙_, subst}
 use mathlib.Core.Bool.{Bool, true, false}
-use mathlib.Core.List.{List, [], _∷_, head-eq-of-cons-eq, cons-ne-nil}
-use mathlib.Core.Option.{Option, none, some}
-use Prim.Native.Nat.{ℕ, zero, suc, _+_, _<_, _≤_}
+use mathlib.Core.List.{List, _∷_, head-eq-of-cons-eq, cons-ne-nil}
+use mathlib.Core.Option.{Option·some-injective, Option·none-ne-some}
+use Prim.Native.Nat.{ℕ, _+_, _<_, _≤_}
 use native.Mathlib.Omega.{arith}
-use lib.Dec.{ltb}
 use lib.ListN.{length, getD, take}
 use borrow.Author.Tests.{lt-ltb, le-ltb}
 use Rattle.lexer.proofs.Bools.{true-not-false}
@@ -16,28 +15,19 @@ use Rattle.follow.specs.declared.rules.Rule.{Rule}
 use Rattle.follow.specs.declared.state.Event.{Event}
 use Rattle.follow.specs.declared.state.Follower.{Follower}
 use Rattle.follow.proofs.CommitLaws.{getD-any}
-use Rattle.chain.specs.Work.{Duty, fill}
+use Rattle.chain.specs.Work.{Duty}
 use Rattle.chain.specs.Duties.{rulesHeld}
 use Rattle.chain.specs.Responses.{optional, wordOf, madeBy, Gives, AnswerRead}
-use Rattle.chain.specs.Steps.{next, afterResponse, stepOf, isGoing, Kept, chainOf, FoundRead, stateAfter, workAfter, steppedTo, standOf, nextOf, lookOf, Fits, RowIs, StepRead}
+use Rattle.chain.specs.Steps.{next, afterResponse, Kept, chainOf, FoundRead, workAfter, steppedTo, standOf, nextOf, lookOf, Fits, StepRead}
 use Rattle.chain.specs.declared.responses.Word.{Word}
 use Rattle.chain.specs.declared.responses.Word.the-variants.{Pass, Hold, Send, Anew}
 use Rattle.chain.specs.declared.responses.Given.{Given}
-use Rattle.chain.specs.declared.steps.State.{State}
-use Rattle.chain.specs.declared.steps.State.the-variants.{Going, Committed, Held, Unfit, TooLong}
+use Rattle.chain.specs.declared.steps.State.the-variants.{Going, Committed, Held, TooLong}
 use Rattle.chain.specs.declared.steps.Found.{Found}
 use Rattle.chain.specs.declared.steps.Work.{Work}
 use Rattle.chain.specs.declared.steps.Stepped.{Stepped}
 use Rattle.chain.proofs.Capped.{capped-small, capped-le}
-
-none-some : {A : Type 0} (a : A) (m : Option A) → m ≡ none → m ≡ some a → ⊥
-none-some a m p q = let z : _≡_ {A = ℕ} 0 1 = cc in omega arith
-
-some-some : {A : Type 0} (a b : A) → some a ≡ some b → a ≡ b
-some-some a b e = cc
-
-abbrev given : Word → Bool → Event → Given
-given word ok event = record { word = word; ok = ok; event = event }
+use Rattle.chain.proofs.RespondLaws.{given}
 
 module _ (w : Work) (i count : ℕ) where
   -- a response that has made what it should: the step is that of its tree
@@ -54,10 +44,10 @@ module _ (w : Work) (i count : ℕ) where
     all-left = capped-small (rulesHeld f) count (omega arith) ∙ ec
 
     pub done : (x : Response ℕ) (ok : Bool) (made : Event) → optional ok (eventOf made) ≡ madeBy (eventOf (w .event)) x → Done x ok made
-    done pass true made h = rw (kept-left) (ap (λ (e : List ℕ). next Going (chainOf (f .parents) ds (eventOf (w .looked)) i) e (w .worked + 1)) (some-some _ _ h))
-    done pass false made h = absurd (none-some _ _ (sym h) refl)
-    done hold true made h = rw (kept-left) (ap (λ (e : List ℕ). next (Held i) (chainOf (f .parents) ds (eventOf (w .looked)) i) e (w .worked + 1)) (some-some _ _ h))
-    done hold false made h = absurd (none-some _ _ (sym h) refl)
+    done pass true made h = rw (kept-left) (ap (λ (e : List ℕ). next Going (chainOf (f .parents) ds (eventOf (w .looked)) i) e (w .worked + 1)) (Option·some-injective _ _ h))
+    done pass false made h = absurd (Option·none-ne-some _ h)
+    done hold true made h = rw (kept-left) (ap (λ (e : List ℕ). next (Held i) (chainOf (f .parents) ds (eventOf (w .looked)) i) e (w .worked + 1)) (Option·some-injective _ _ h))
+    done hold false made h = absurd (Option·none-ne-some _ h)
     done (send xs) true made h = rw (kept-left, sym h) refl
     done (send xs) false made h = rw (kept-left, sym h) refl
     done (anew xs) true made h = rw (all-left, sym h) refl

@@ -1,23 +1,32 @@
 -- The work of an event is the same under other names: it depends on nothing but how the roles at hand compare.
 -- Assumes nothing.
-use mathlib.Core.Path.{_≡_, refl, sym, ap, _∙_, subst}
+use mathlib.Core.Path.{_≡_, refl, sym, ap, _∙_}
 use mathlib.Core.Bool.{Bool, true, false, cond, _&&_}
 use mathlib.Core.List.{List, [], _∷_, map}
-use mathlib.Core.Option.{Option, none, some}
-use Prim.Native.Nat.{ℕ, zero, suc, _-_}
+use mathlib.Core.Option.{Option, none, some, Option·map}
+use Prim.Native.Nat.{ℕ, zero, suc, _-_, _<_}
+use native.Mathlib.Omega.{arith}
 use lib.ListN.{getElem?}
-use Rattle.grammar.specs.Trees.{Pattern, Slot, named, place, Template, Response, pass, hold, send, anew}
+use Rattle.grammar.specs.Trees.{Pattern, named, place, Template, Response, pass, hold, send, anew}
 use Rattle.grammar.specs.Rename.{mapPattern, mapSlots, mapResponse}
-use Rattle.grammar.specs.Names.{patternNames, slotsNames, responseNames}
+use Rattle.grammar.specs.Names.{patternNames, responseNames}
 use Rattle.patterns.specs.All.{All}
 use Rattle.patterns.specs.Meets.{Order, meets}
 use Rattle.patterns.proofs.MeetsLaws.{through, meets-map, meets-agree}
-use Rattle.chain.specs.Work.{Outcome, committed, held, unfit, tooLong, Duty, fillSlot, consFilled, fill, chain, onward, respond, work, workEvent}
+use Rattle.chain.specs.Work.{Outcome, Duty, fillSlot, consFilled, fill, chain, onward, respond, work, workEvent}
+use Rattle.chain.specs.Duties.{dutiesOf}
 use Rattle.chain.specs.Rename.{mapDuty, mapOutcome, DutyIn}
+use Rattle.chain.proofs.NamesIn.{Each, fill-in, chain-in}
 
-mapOption : {A B : Type 0} → (A → B) → Option A → Option B
-mapOption f none = none
-mapOption f (some a) = some (f a)
+-- the first n duties under other names
+pub duties-map : {M N R S : Type 0} (f : M → N) (g : R → S) (ds : ℕ → Duty M R) (n : ℕ) → map (mapDuty f g) (dutiesOf ds n) ≡ dutiesOf (λ i. mapDuty f g (ds i)) n
+duties-map f g ds zero = refl
+duties-map f g ds (suc n) = ap (λ l. mapDuty f g (ds n) ∷ l) (duties-map f g ds n)
+
+-- what each of the first n has, the list has
+pub duties-all : {N R : Type 0} (P : Duty N R → Type 0) (ds : ℕ → Duty N R) (n : ℕ) → ((i : ℕ) → i < n → P (ds i)) → All P (dutiesOf ds n)
+duties-all P ds zero h = tt
+duties-all P ds (suc n) h = (h n (omega arith), duties-all P ds n (λ i l. h i (omega arith)))
 
 module _ {M N R S : Type 0} (f : M → N) (g : R → S) (o : Order M) (o′ : Order N) (In : M → Type 0)
     (is-agrees : (r p : M) → In r → In p → o .is r p ≡ o′ .is (f r) (f p))
@@ -37,57 +46,21 @@ module _ {M N R S : Type 0} (f : M → N) (g : R → S) (o : Order M) (o′ : Or
       go true = refl
       go false = refl
 
-  chain-in : (ds : List (Duty M R)) (e : List M) → All (DutyIn In) ds → All (DutyIn In) (chain o ds e)
-  unfolding chain
-  chain-in [] e k = tt
-  chain-in (d ∷ ds) e k = go (d .matched && meets o e (d .trigger)) (chain-in ds e (k .1))
-    where
-      go : (b : Bool) → All (DutyIn In) (chain o ds e) → All (DutyIn In) (cond b (d ∷ chain o ds e) (chain o ds e))
-      go true c = (k .0, c)
-      go false c = c
-
-  element-map : (e : List M) (i : ℕ) → getElem? (map f e) i ≡ mapOption f (getElem? e i)
-  unfolding mapOption
+  element-map : (e : List M) (i : ℕ) → getElem? (map f e) i ≡ Option·map f (getElem? e i)
   element-map [] i = refl
   element-map (a ∷ e) zero = refl
   element-map (a ∷ e) (suc i) = element-map e i
 
-  cons-map : (x : Option M) (e : Option (List M)) → consFilled (mapOption f x) (mapOption (map f) e) ≡ mapOption (map f) (consFilled x e)
-  unfolding mapOption
+  cons-map : (x : Option M) (e : Option (List M)) → consFilled (Option·map f x) (Option·map (map f) e) ≡ Option·map (map f) (consFilled x e)
   cons-map none e = refl
   cons-map (some a) none = refl
   cons-map (some a) (some e) = refl
 
-  fill-map : (e : List M) (xs : Template M) → fill (map f e) (mapSlots f xs) ≡ mapOption (map f) (fill e xs)
-  unfolding fill fillSlot mapSlots mapOption
+  fill-map : (e : List M) (xs : Template M) → fill (map f e) (mapSlots f xs) ≡ Option·map (map f) (fill e xs)
+  unfolding fill fillSlot mapSlots
   fill-map e [] = refl
   fill-map e (named w ∷ xs) = rw (fill-map e xs) (cons-map (some w) (fill e xs))
   fill-map e (place n ∷ xs) = rw (fill-map e xs, element-map e (n - 1)) (cons-map (getElem? e (n - 1)) (fill e xs))
-
-  -- every role of what there is has In
-  abbrev One : Option M → Type 0
-  One none = Unit {0}
-  One (some a) = In a
-
-  abbrev Each : Option (List M) → Type 0
-  Each none = Unit {0}
-  Each (some e) = All In e
-
-  element-in : (e : List M) (i : ℕ) → All In e → One (getElem? e i)
-  element-in [] i h = tt
-  element-in (a ∷ e) zero h = h .0
-  element-in (a ∷ e) (suc i) h = element-in e i (h .1)
-
-  cons-in : (x : Option M) (e : Option (List M)) → One x → Each e → Each (consFilled x e)
-  cons-in none e p q = tt
-  cons-in (some a) none p q = tt
-  cons-in (some a) (some e) p q = (p, q)
-
-  fill-in : (e : List M) (xs : Template M) → All In e → All In (slotsNames xs) → Each (fill e xs)
-  unfolding fill fillSlot slotsNames
-  fill-in e [] h k = tt
-  fill-in e (named w ∷ xs) h k = cons-in (some w) (fill e xs) (k .0) (fill-in e xs h (k .1))
-  fill-in e (place n ∷ xs) h k = cons-in (getElem? e (n - 1)) (fill e xs) (element-in e (n - 1) h) (fill-in e xs h k)
 
   module _ (ds : List (Duty M R)) (all : All (DutyIn In) ds) where
     abbrev look : List M → List (Duty M R)
@@ -101,18 +74,16 @@ module _ {M N R S : Type 0} (f : M → N) (g : R → S) (o : Order M) (o′ : Or
     Same go go′ = (c : List (Duty M R)) (e : List M) → All (DutyIn In) c → All In e → go′ (map D c) (map f e) ≡ mapOutcome f g (go c e)
 
     send-map : (go : List (Duty M R) → List M → Outcome M R) (go′ : List (Duty N S) → List N → Outcome N S) → Same go go′
-        → (r : R) (n : ℕ) (rest : List (Duty M R)) → All (DutyIn In) rest → (x : Option (List M)) → Each x
-        → onward (λ y. go′ (map D rest) y) (g r) n (mapOption (map f) x) ≡ mapOutcome f g (onward (λ y. go rest y) r n x)
-    unfolding mapOption
+        → (r : R) (n : ℕ) (rest : List (Duty M R)) → All (DutyIn In) rest → (x : Option (List M)) → Each In x
+        → onward (λ y. go′ (map D rest) y) (g r) n (Option·map (map f) x) ≡ mapOutcome f g (onward (λ y. go rest y) r n x)
     send-map go go′ ih r n rest k none h = refl
     send-map go go′ ih r n rest k (some x) h = ih rest x k h
 
     anew-map : (go : List (Duty M R) → List M → Outcome M R) (go′ : List (Duty N S) → List N → Outcome N S) → Same go go′
-        → (r : R) (n : ℕ) (x : Option (List M)) → Each x
-        → onward (λ y. go′ (look′ y) y) (g r) n (mapOption (map f) x) ≡ mapOutcome f g (onward (λ y. go (look y) y) r n x)
-    unfolding mapOption
+        → (r : R) (n : ℕ) (x : Option (List M)) → Each In x
+        → onward (λ y. go′ (look′ y) y) (g r) n (Option·map (map f) x) ≡ mapOutcome f g (onward (λ y. go (look y) y) r n x)
     anew-map go go′ ih r n none h = refl
-    anew-map go go′ ih r n (some x) h = rw (chain-map ds x all h) (ih (look x) x (chain-in ds x all) h)
+    anew-map go go′ ih r n (some x) h = rw (chain-map ds x all h) (ih (look x) x (chain-in In o ds x all) h)
 
     respond-map : (go : List (Duty M R) → List M → Outcome M R) (go′ : List (Duty N S) → List N → Outcome N S) → Same go go′
         → (r : R) (n : ℕ) (rest : List (Duty M R)) (e : List M) (x : Response M) → All (DutyIn In) rest → All In e → All In (responseNames x)
@@ -120,8 +91,8 @@ module _ {M N R S : Type 0} (f : M → N) (g : R → S) (o : Order M) (o′ : Or
     unfolding respond mapResponse responseNames
     respond-map go go′ ih r n rest e pass k h l = ih rest e k h
     respond-map go go′ ih r n rest e hold k h l = refl
-    respond-map go go′ ih r n rest e (send xs) k h l = rw (fill-map e xs) (send-map go go′ ih r n rest k (fill e xs) (fill-in e xs h l))
-    respond-map go go′ ih r n rest e (anew xs) k h l = rw (fill-map e xs) (anew-map go go′ ih r n (fill e xs) (fill-in e xs h l))
+    respond-map go go′ ih r n rest e (send xs) k h l = rw (fill-map e xs) (send-map go go′ ih r n rest k (fill e xs) (fill-in In e xs h l))
+    respond-map go go′ ih r n rest e (anew xs) k h l = rw (fill-map e xs) (anew-map go go′ ih r n (fill e xs) (fill-in In e xs h l))
 
     pub run-map : (k : ℕ) (c : List (Duty M R)) (e : List M) → All (DutyIn In) c → All In e
         → work look′ k (map D c) (map f e) ≡ mapOutcome f g (work look k c e)
@@ -136,41 +107,4 @@ module _ {M N R S : Type 0} (f : M → N) (g : R → S) (o : Order M) (o′ : Or
     -- the event and the duties name no other.
     pub work-map : (e : List M) → All In e → workEvent o′ (map D ds) (map f e) ≡ mapOutcome f g (workEvent o ds e)
     unfolding workEvent
-    work-map e h = rw (chain-map ds e all h) (run-map 64 (look e) e (chain-in ds e all) h)
-
-    -- a committed event has no other roles than the event, the duties and their templates name
-    abbrev In-outcome : Outcome M R → Type 0
-    In-outcome (committed e n) = All In e
-    In-outcome (held r n) = Unit {0}
-    In-outcome (unfit r n) = Unit {0}
-    In-outcome (tooLong r) = Unit {0}
-
-    abbrev Stays : (List (Duty M R) → List M → Outcome M R) → Type 0
-    Stays go = (c : List (Duty M R)) (e : List M) → All (DutyIn In) c → All In e → In-outcome (go c e)
-
-    onward-in : (go : List M → Outcome M R) (r : R) (n : ℕ) → ((x : List M) → All In x → In-outcome (go x)) → (x : Option (List M)) → Each x → In-outcome (onward go r n x)
-    onward-in go r n h none k = tt
-    onward-in go r n h (some x) k = h x k
-
-    respond-in : (go : List (Duty M R) → List M → Outcome M R) → Stays go
-        → (r : R) (n : ℕ) (rest : List (Duty M R)) (e : List M) (x : Response M) → All (DutyIn In) rest → All In e → All In (responseNames x) → In-outcome (respond look go r n rest e x)
-    unfolding respond responseNames
-    respond-in go ih r n rest e pass k h l = ih rest e k h
-    respond-in go ih r n rest e hold k h l = tt
-    respond-in go ih r n rest e (send xs) k h l = onward-in (λ x. go rest x) r n (λ x q. ih rest x k q) (fill e xs) (fill-in e xs h l)
-    respond-in go ih r n rest e (anew xs) k h l = onward-in (λ x. go (look x) x) r n (λ x q. ih (look x) x (chain-in ds x all) q) (fill e xs) (fill-in e xs h l)
-
-    run-in : (k : ℕ) (c : List (Duty M R)) (e : List M) → All (DutyIn In) c → All In e → In-outcome (work look k c e)
-    unfolding work
-    run-in zero [] e p h = h
-    run-in zero (d ∷ c) e p h = tt
-    run-in (suc k) [] e p h = h
-    run-in (suc k) (d ∷ c) e p h = respond-in (λ l x. work look k l x) (λ l x q i. run-in k l x q i) (d .rule) (64 - k) c e (d .response) (p .1) h (p .0 .response)
-
-    committed-in : (x : Outcome M R) → In-outcome x → (e : List M) (n : ℕ) → x ≡ committed e n → All In e
-    committed-in x h e n q = subst In-outcome q h
-
-    -- the roles of the event committed are among those at hand
-    pub work-in : (e : List M) → All In e → (x : List M) (n : ℕ) → workEvent o ds e ≡ committed x n → All In x
-    unfolding workEvent
-    work-in e h x n q = committed-in (work look 64 (look e) e) (run-in 64 (look e) e (chain-in ds e all) h) x n q
+    work-map e h = rw (chain-map ds e all h) (run-map 64 (look e) e (chain-in In o ds e all) h)

@@ -2,7 +2,7 @@
 -- Assumes nothing.
 use mathlib.Core.Path.{_≡_}
 use mathlib.Core.Bool.{Bool, true, cond}
-use mathlib.Core.List.{List, [], _∷_, _++_}
+use mathlib.Core.List.{List, _∷_, _++_}
 use mathlib.Core.Option.{Option, none, some}
 use Prim.Native.Nat.{ℕ, _+_, _≤_}
 use lib.ListN.{length, drop, take}
@@ -28,6 +28,7 @@ abbrev pub behind : List ℕ → Option (List ℕ) → Option (List ℕ)
 behind l none = none
 behind l (some e) = some (l ++ e)
 
+-- "pass, hold, or send or anew with a template"
 abbrev pub wordOf : {N : Type 0} → Response N → Word
 wordOf pass = Pass
 wordOf hold = Hold
@@ -46,16 +47,18 @@ pub record RolesHeld (event : Event) (r : ℕ) : Type 0 where
   pub is : r ≡ capped 4 (event .len)
   pub small : r ≤ length (event .roles)
 
+-- where the code spells a slot and then others: what the slot stands for, and where the others begin
 pub record SlotRead (code : List ℕ) (at : ℕ) (event : List ℕ) (r : Picked) : Type 0 where
   pub right : (x : Slot ℕ) (xs : Template ℕ) (rest : List ℕ) → drop at code ≡ codeSlots (x ∷ xs) ++ rest
       → (optional (r .ok) (r .role) ≡ fillSlot event x) × (r .ok ≡ true → drop (r .end) code ≡ codeSlots xs ++ rest)
 
--- out: the roles already filled in
+-- where the code spells slots: the event that they make behind `out`, the roles already filled in
 pub record FillRead (code : List ℕ) (at : ℕ) (event : List ℕ) (out : Event) (r : Filled) : Type 0 where
   pub fits : out .len ≤ 4 → r .event .len ≤ 4
   pub right : (xs : Template ℕ) (rest : List ℕ) → out .len + length xs ≤ 4 → drop at code ≡ codeSlots xs ++ rest
       → optional (r .ok) (eventOf (r .event)) ≡ behind (eventOf out) (fill event xs)
 
+-- the same with nothing filled in
 pub record TemplateRead (code : List ℕ) (at : ℕ) (event : Event) (r : Filled) : Type 0 where
   pub fits : r .event .len ≤ 4
   pub right : (xs : Template ℕ) (rest : List ℕ) → length xs ≤ 4 → drop at code ≡ codeSlots xs ++ rest
@@ -66,11 +69,12 @@ pub record Gives (event : Event) (x : Response ℕ) (r : Given) : Type 0 where
   pub word : r .word ≡ wordOf x
   pub made : optional (r .ok) (eventOf (r .event)) ≡ madeBy (eventOf event) x
 
--- at: the place of the `;` before the response
+-- where the code spells a response after the `;` at `at`
 pub record GivenRead (code : List ℕ) (at : ℕ) (event : Event) (r : Given) : Type 0 where
   pub fits : event .len ≤ 4 → r .event .len ≤ 4
   pub right : (x : Response ℕ) (rest : List ℕ) → Short x → drop at code ≡ 59 ∷ (codeResponse x ++ rest) → Gives event x r
 
+-- the same for a rule's whole code
 pub record AnswerRead (rule : Rule) (at : ℕ) (event : Event) (r : Given) : Type 0 where
   pub fits : event .len ≤ 4 → r .event .len ≤ 4
   pub right : (x : Response ℕ) → rule .len ≤ 126 → Short x → drop at (take (rule .len) (rule .code)) ≡ 59 ∷ codeResponse x → Gives event x r

@@ -1,15 +1,19 @@
 -- The responses worked, in order. Document 02, C-16: "Below an act stands one row for each response worked, in order".
 -- Assumes nothing.
-use mathlib.Core.Bool.{Bool, cond}
 use mathlib.Core.List.{List, [], _∷_}
 use mathlib.Core.Option.{Option, none, some}
 use Prim.Native.Nat.{ℕ, zero, suc, _-_}
 use Rattle.grammar.specs.Trees.{Response, pass, hold, send, anew}
 use Rattle.patterns.specs.Meets.{Order}
+use Rattle.follow.specs.State.{eventOf}
 use Rattle.chain.specs.Work.{Duty, fill, chain}
 use Rattle.chain.specs.Responses.{wordOf}
 use Rattle.chain.specs.Steps.{Stand}
 use Rattle.chain.specs.declared.responses.Word.{Word}
+use Rattle.chain.specs.declared.steps.State.{State}
+use Rattle.chain.specs.declared.steps.State.the-variants.{Going, Committed, Held, Unfit, TooLong}
+use Rattle.chain.specs.declared.steps.Work.{Work}
+use Rattle.chain.specs.declared.steps.Stepped.{Stepped}
 
 -- a response worked: its rule, "the response's four-letter word", "the act as it reached that rule"
 pub record Row (N R : Type 0) : Type 0 where
@@ -18,6 +22,7 @@ pub record Row (N R : Type 0) : Type 0 where
   pub event : List N
 
 module _ {N R : Type 0} where
+  -- no rows follow an unfit template
   abbrev pub ifFit : (List N → List (Row N R)) → Option (List N) → List (Row N R)
   ifFit go none = []
   ifFit go (some e) = go e
@@ -29,6 +34,7 @@ module _ {N R : Type 0} where
   rowsAfter look go rest e (send xs) = ifFit (λ x. go rest x) (fill e xs)
   rowsAfter look go rest e (anew xs) = ifFit (λ x. go (look x) x) (fill e xs)
 
+  -- the row of a duty's response to the event that reached it
   abbrev pub rowOf : Duty N R → List N → Row N R
   rowOf d e = record { rule = d .rule; word = wordOf (d .response); event = e }
 
@@ -46,5 +52,14 @@ module _ {N R : Type 0} where
 abbrev pub rowsFrom : (List ℕ → List (Duty ℕ ℕ)) → Stand → List (Row ℕ ℕ)
 rowsFrom look s = rows look (64 - s .worked) (s .rest) (s .event)
 
-abbrev pub onlyGoing : Bool → List (Row ℕ ℕ) → List (Row ℕ ℕ)
-onlyGoing going l = cond going l []
+-- the rows of a step and those after it, by how the work stands then: committed and too long are no responses worked
+abbrev pub rowsOf : State → Row ℕ ℕ → List (Row ℕ ℕ) → List (Row ℕ ℕ)
+rowsOf Going x l = x ∷ l
+rowsOf Committed x l = []
+rowsOf (Held i) x l = x ∷ []
+rowsOf (Unfit i) x l = x ∷ []
+rowsOf (TooLong i) x l = []
+
+-- the row of a step from w
+abbrev pub rowAt : Work → Stepped → Row ℕ ℕ
+rowAt w r = record { rule = r .rule; word = r .word; event = eventOf (w .event) }

@@ -1,14 +1,14 @@
 -- The whole work of an event: what the functions of run.rt promise.
 -- Assumes nothing.
 use mathlib.Core.Path.{_≡_}
-use mathlib.Core.Bool.{Bool, true, false, cond}
+use mathlib.Core.Bool.{false, cond}
 use mathlib.Core.List.{List}
 use Prim.Native.Nat.{ℕ, _-_, _≤_, _<_}
-use lib.ListN.{length, getD}
+use lib.ListN.{getD}
 use Rattle.patterns.specs.Judged.{orderIn}
 use Rattle.positions.specs.Sets.{shares}
 use Rattle.follow.specs.Rules.{Tree}
-use Rattle.follow.specs.State.{capped, maxRules, noRule, eventOf}
+use Rattle.follow.specs.State.{capped, noRule, eventOf}
 use Rattle.follow.specs.declared.rules.Rule.{Rule}
 use Rattle.follow.specs.declared.state.Event.{Event}
 use Rattle.follow.specs.declared.state.Follower.{Follower}
@@ -29,6 +29,7 @@ endOf (Held i) n e = held i n
 endOf (Unfit i) n e = unfit i n
 endOf (TooLong i) n e = tooLong i
 
+-- the outcome that the code's struct stands for
 abbrev pub outcomeOf : Outcome → meaning.Outcome ℕ ℕ
 outcomeOf r = endOf (r .state) (r .worked) (eventOf (r .event))
 
@@ -48,6 +49,7 @@ pub record Ends (r : Outcome) (x : meaning.Outcome ℕ ℕ) : Type 0 where
 abbrev pub placeOf : Rule → ℕ → ℕ
 placeOf rule m = cond (shares m (rule .ends)) (rule .trigger) 0
 
+-- the table of triggers
 pub record TableRead (f : Follower) (r : List ℕ) : Type 0 where
   pub each : (i : ℕ) → i < rulesHeld f → getD r i 0 ≡ placeOf (getD (f .rules) i noRule) (getD (f .positions) i 0)
 
@@ -63,6 +65,7 @@ begun f e = record { event = fitted e; looked = fitted e; left = rulesHeld f; wo
 abbrev pub finish : Follower → (ℕ → Duty ℕ ℕ) → Stand → meaning.Outcome ℕ ℕ
 finish f ds s = work (lookOf f ds) (64 - s .worked) (s .rest) (s .event)
 
+-- the work from any stand to its end
 pub record RunRead (f : Follower) (ready : List ℕ) (w : Work) (r : Outcome) : Type 0 where
   pub ended : isGoing (r .state) ≡ false
   pub fits : Fits w → (r .worked ≤ 64) × (r .event .len ≤ 4)

@@ -2,19 +2,19 @@
 -- Assumes nothing.
 use mathlib.Core.Path.{_≡_, refl, sym, ap, _∙_, subst}
 use mathlib.Core.Bool.{Bool, true, false, not, cond}
-use mathlib.Core.List.{List, [], _∷_, map}
+use mathlib.Core.List.{List, map}
 use mathlib.Core.Option.{some}
-use Prim.Native.Nat.{ℕ, zero, suc, _≤_, _<_}
+use Prim.Native.Nat.{ℕ, _≤_, _<_}
 use native.Mathlib.Omega.{arith}
 use lib.Dec.{leb, ltb}
 use lib.ListN.{length, take}
 use borrow.Author.Tests.{ltb-true, leb-true}
 use Rattle.lexer.specs.Words.{same}
-use Rattle.grammar.specs.AsRead.{Past, Pattern, Response, Template, named, place, pass, hold, send, anew, rule}
-use Rattle.grammar.specs.Rename.{mapPast, mapPattern, mapSlots, mapResponse}
+use Rattle.grammar.specs.AsRead.{Past, Pattern, Response, named, rule}
+use Rattle.grammar.specs.Rename.{mapPast, mapPattern, mapResponse}
 use Rattle.grammar.specs.Names.{pastNames, patternNames, responseNames, ruleNames}
 use Rattle.grammar.specs.Size.{sizePast}
-use Rattle.grammar.specs.Valid.{ValidSlots, ValidResponse, ValidLine}
+use Rattle.grammar.specs.Valid.{ValidResponse, ValidLine}
 use Rattle.grammar.specs.Lines.{Says}
 use Rattle.grammar.proofs.RenameLaws.{size-map}
 use Rattle.code.specs.Code.{idOf}
@@ -31,7 +31,7 @@ use Rattle.follow.specs.State.{capped, maxRoles, maxRules, isTaken, addRule, re
 use Rattle.follow.specs.declared.rules.Rule as kept
 use Rattle.follow.specs.declared.state.Follower.{Follower}
 use Rattle.follow.specs.declared.declare.Declared.{Declared}
-use Rattle.chain.specs.Duties.{Short}
+use Rattle.chain.proofs.ShortLaws.{valid-short}
 use Rattle.book.specs.Names.{Name, Rule}
 use Rattle.book.specs.Decide.{newRule, isFree, decideLine, answer}
 use Rattle.book.specs.Tracked.{Tracked, trackDuty, trackNext}
@@ -45,20 +45,6 @@ use Rattle.monitor.proofs.Taken as names
 use Rattle.monitor.proofs.Taken.{taken-is, lacks-is, all-found, rules-length}
 use Rattle.monitor.proofs.KeptRule.{kept-rule}
 use Rattle.monitor.proofs.AnswerLaws.{refusing, taking, finished-unchanged}
-
-slots-short : (k : ℕ) (f : Name → ℕ) (xs : Template) → ValidSlots k xs → length (mapSlots f xs) ≤ k
-unfolding ValidSlots mapSlots
-slots-short k f [] h = omega arith
-slots-short zero f (x ∷ xs) h = absurd h
-slots-short (suc k) f (named w ∷ xs) h = let l = slots-short k f xs (h .1) in omega arith
-slots-short (suc k) f (place n ∷ xs) h = let l = slots-short k f xs (h .1) in omega arith
-
-response-short : (f : Name → ℕ) (x : Response) → ValidResponse x → Short (mapResponse f x)
-unfolding ValidResponse mapResponse
-response-short f pass h = tt
-response-short f hold h = tt
-response-short f (send xs) h = slots-short 4 f xs h
-response-short f (anew xs) h = slots-short 4 f xs h
 
 valid-response : (w : Name) (p : Past) (q : Pattern) (x : Response) → ValidLine (rule w p q x) → ValidResponse x
 unfolding ValidLine
@@ -129,7 +115,7 @@ module _ (f : Follower) (z : Sized f) (s : List ℕ) (l : RuleLine) (read : Rule
       kept-tree small room =
           let late = all-right Back (pastNames p) _ backs in
           kept-rule f z t rep (made .rule) tree (made .compiled .right tree (record { fits = read .small; is = told .code })) ids
-          (response-short (idOf table) x (valid-response w p q x (says .valid))) (subst (λ (k : ℕ). k ≤ limit) (sym (size-map (idOf table) p)) small)
+          (valid-short (idOf table) x (valid-response w p q x (says .valid))) (subst (λ (k : ℕ). k ≤ limit) (sym (size-map (idOf table) p)) small)
           (record { name = w; past = p; trigger = q; response = x }) (made .compiled .named ∙ told .name) word
           (sym (past-back (idOf table) (nameAt f) p (all-left Back (pastNames p) _ backs)))
           (sym (pattern-back (idOf table) (nameAt f) q (all-left Back (patternNames q) (responseNames x) late)))

@@ -31,7 +31,8 @@ use Rattle.chain.specs.Work as work
 use Rattle.chain.specs.Work.{Duty, committed, held, unfit, tooLong, workEvent}
 use Rattle.chain.specs.Duties.{Short, rulesHeld, KeepsAll, dutyOf, dutiesOf}
 use Rattle.chain.specs.Rename.{mapDuty, mapOutcome, DutyIn}
-use Rattle.chain.proofs.WorkMap.{work-map, work-in}
+use Rattle.chain.proofs.WorkMap.{work-map}
+use Rattle.chain.proofs.WorkIn.{work-in}
 use Rattle.book.specs.Names.{Name, Roles}
 use Rattle.book.specs.Names as book
 use Rattle.book.specs.Tracked.{Tracked, Followed, endNumber, trackDuty, trackWorked}
@@ -194,7 +195,7 @@ module _ (f : Follower) (t : Tracked) (rep : Represents f t) where
   -- what the work leaves
   pub work-kept : (e : List ℕ) → All Id e → (g : Follower) → AfterWork f (idWork e) g → Represents g (trackWorked t (mapOutcome (nameAt f) (ruleNameAt f) (idWork e)))
   work-kept e h g a =
-      go (idWork e) (λ x n q. work-in (nameAt f) (ruleNameAt f) (orderIn (f .parents)) names Id is-agrees under-agrees duties all-in e h x n q) a
+      go (idWork e) (λ x n q. work-in Id (orderIn (f .parents)) duties all-in e h x n q) a
     where
       go : (o : work.Outcome ℕ ℕ) → ((x : List ℕ) (n : ℕ) → o ≡ committed x n → All Id x) → AfterWork f o g → Represents g (trackWorked t (mapOutcome (nameAt f) (ruleNameAt f) o))
       go (committed x n) k b = kept-commit f g t rep x (k x n refl) b
