@@ -67,7 +67,79 @@ END
     printf 'R 08 -\n' | replies
 } >refusal-examples.out
 
-printf '%s\n' empty last-1-byte last-127-bytes refusal-examples >>names.txt
+# Names of eight bytes and of nine, a hyphen in a name, four names that fill the reply, an undeclared role inside not, another last byte.
+{
+    records <<'END'
+Lrole abcdefgh under top
+Lrole abcdefghi under top
+Lrole a-b under abcdefgh
+Lrole -ab under top
+Lrole ijklmnop under top
+Lrole qrstuvwx under top
+Lrole yzabcdef under top
+Eabcdefgh ijklmnop qrstuvwx yzabcdef
+Ea-b
+Lrule r: [not <zebra>]; any; hold
+END
+    printf '%-127sx' 'Ea-b'
+} >names-and-columns.rec
+replies >names-and-columns.out <<'END'
+D 00 abcdefgh
+R 04 -
+D 00 a-b
+R 04 -
+D 00 ijklmnop
+D 00 qrstuvwx
+D 00 yzabcdef
+C 00 -        abcdefgh ijklmnop qrstuvwx yzabcdef
+C 00 -        a-b
+R 06 -
+R 03 -
+END
+
+# A hold that would be the 65th response is too long; earlier it holds. Each hop works twelve passes and an anew.
+{
+    records <<'END'
+Lrole a under top
+Lrole b under top
+Lrole c under top
+Lrole d under top
+Lrole e under top
+Lrule h: any*; any; hold
+Lrule n1: any*; <a>; anew <b>
+Lrule n2: any*; <b>; anew <c>
+Lrule n3: any*; <c>; anew <d>
+Lrule n4: any*; <d>; anew <e>
+END
+    numbered 12 'Lrule p%d: any*; any; pass' | records
+    records <<'END'
+Ea
+Eb
+Ee
+END
+} >hold-as-65th.rec
+{
+    replies <<'END'
+D 00 a
+D 00 b
+D 00 c
+D 00 d
+D 00 e
+D 00 h
+D 00 n1
+D 00 n2
+D 00 n3
+D 00 n4
+END
+    numbered 12 'D 00 p%d' | replies
+    replies <<'END'
+T 64 h
+H 52 h
+H 13 h
+END
+} >hold-as-65th.out
+
+printf '%s\n' empty last-1-byte last-127-bytes refusal-examples names-and-columns hold-as-65th >>names.txt
 
 # What the program must print.
 {

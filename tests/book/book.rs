@@ -1,0 +1,143 @@
+//! The plain book: the roles with their parents, the rules in declared order,
+//! each with its start, and the full list of committed acts as role names.
+
+use crate::chain::{work, End, Rule, Stand};
+use crate::grammar;
+use crate::reply;
+use crate::roles::Roles;
+use crate::survey::{patterns, roles_used};
+use crate::text::class;
+use crate::tree::{Act, Line, Name, RuleLine};
+
+/// The length of a record.
+pub const RECORD: usize = 128;
+
+const MOST_ROLES: usize = 64;
+const MOST_RULES: usize = 32;
+const MOST_PATTERNS: usize = 31;
+
+pub struct Book {
+    roles: Roles,
+    rules: Vec<Rule>,
+    list: Vec<Act>,
+}
+
+/// What a record that isn't refused asks for.
+enum Asked {
+    Line(Line),
+    Act(Act),
+}
+
+impl Book {
+    pub fn fresh() -> Book {
+        Book {
+            roles: Roles::fresh(),
+            rules: Vec::new(),
+            list: Vec::new(),
+        }
+    }
+
+    /// One call. The record may be any bytes and the reply buffer of any
+    /// length. Gives the refusal number, or 0 when the record is taken.
+    pub fn call(&mut self, record: &[u8], buffer: &mut [u8]) -> u8 {
+        if buffer.len() != reply::LENGTH {
+            return 1;
+        }
+        // Every refusal is found before anything changes.
+        match self.read(record) {
+            Err(number) => {
+                reply::refused(buffer, number);
+                return number;
+            }
+            Ok(Asked::Line(Line::Role { name, parent })) => {
+                reply::declared(buffer, &name);
+                self.roles.join(name, parent);
+            }
+            Ok(Asked::Line(Line::Rule(line))) => {
+                reply::declared(buffer, &line.name);
+                let start = self.list.len();
+                self.rules.push(Rule { line, start });
+            }
+            Ok(Asked::Act(act)) => self.offer(act, buffer),
+        }
+        0
+    }
+
+    /// An act joins the list only when the work ends committed, and then it
+    /// is the act in hand at the end that joins.
+    fn offer(&mut self, act: Act, buffer: &mut [u8]) {
+        let stand = Stand {
+            roles: &self.roles,
+            rules: &self.rules,
+            list: &self.list,
+        };
+        let (count, end) = work(&stand, act);
+        reply::worked(buffer, count, &end);
+        if let End::Committed(act) = end {
+            self.list.push(act);
+        }
+    }
+
+    /// Rows 2 to 8 in their order.
+    fn read(&self, record: &[u8]) -> Result<Asked, u8> {
+        if record.len() != RECORD {
+            return Err(2);
+        }
+        let text = &record[1..RECORD - 1];
+        let kind_known = record[0] == b'L' || record[0] == b'E';
+        let ends_well = record[RECORD - 1] == b'\n';
+        if !kind_known || !ends_well || text.iter().any(|&byte| class(byte) == 0) {
+            return Err(3);
+        }
+        if record[0] == b'E' {
+            let act = grammar::act(text).ok_or(4)?;
+            self.need_roles(act.iter())?;
+            return Ok(Asked::Act(act));
+        }
+        let line = grammar::line(text).ok_or(4)?;
+        match &line {
+            Line::Role { name, parent } => self.check_role(name, parent)?,
+            Line::Rule(rule) => self.check_rule(rule)?,
+        }
+        Ok(Asked::Line(line))
+    }
+
+    fn check_role(&self, name: &Name, parent: &Name) -> Result<(), u8> {
+        self.need_free(name)?;
+        self.need_roles(std::iter::once(parent))?;
+        if self.roles.count() >= MOST_ROLES {
+            return Err(8);
+        }
+        Ok(())
+    }
+
+    fn check_rule(&self, line: &RuleLine) -> Result<(), u8> {
+        self.need_free(&line.name)?;
+        self.need_roles(roles_used(line).into_iter())?;
+        if patterns(&line.past) > MOST_PATTERNS {
+            return Err(7);
+        }
+        if self.rules.len() >= MOST_RULES {
+            return Err(8);
+        }
+        Ok(())
+    }
+
+    /// Row 5. Roles and rules share one set of names.
+    fn need_free(&self, name: &Name) -> Result<(), u8> {
+        let a_rule = self.rules.iter().any(|rule| rule.line.name == *name);
+        if a_rule || self.roles.holds(name) {
+            return Err(5);
+        }
+        Ok(())
+    }
+
+    /// Row 6.
+    fn need_roles<'a>(&self, mut names: impl Iterator<Item = &'a Name>) -> Result<(), u8> {
+        if names.all(|name| self.roles.holds(name)) {
+            Ok(())
+        } else {
+            Err(6)
+        }
+    }
+}

@@ -1,0 +1,94 @@
+//! Runs stored sessions through the plain book and compares its replies, byte
+//! for byte, with the stored ones.
+//!
+//! The one argument is a directory with `names.txt`, which lists the sessions
+//! one to a line, and for each NAME the files `NAME.rec` and `NAME.out`.
+
+#![forbid(unsafe_code)]
+
+mod book;
+mod chain;
+mod grammar;
+mod matcher;
+mod meets;
+mod reply;
+mod roles;
+mod survey;
+mod text;
+mod tree;
+
+use std::path::Path;
+
+use book::Book;
+
+fn main() {
+    let told = match std::env::args_os().nth(1) {
+        Some(directory) => compare_all(Path::new(&directory)),
+        None => Err("book: give the directory of the sessions".to_string()),
+    };
+    match told {
+        Ok(line) => println!("{line}"),
+        Err(line) => {
+            println!("{line}");
+            std::process::exit(1);
+        }
+    }
+}
+
+/// Every session that `names.txt` lists; stops at the first difference.
+fn compare_all(directory: &Path) -> Result<String, String> {
+    let names = read(&directory.join("names.txt"))?;
+    let names = String::from_utf8_lossy(&names);
+    let mut sessions = 0;
+    let mut replies = 0;
+    for name in names.lines().map(str::trim).filter(|n| !n.is_empty()) {
+        let records = read(&directory.join(format!("{name}.rec")))?;
+        let stored = read(&directory.join(format!("{name}.out")))?;
+        replies += compare(name, &records, &stored)?;
+        sessions += 1;
+    }
+    // A list of no sessions would compare nothing and still look well.
+    if sessions == 0 {
+        return Err("book: names.txt lists no session".to_string());
+    }
+    Ok(format!(
+        "book: {sessions} sessions, {replies} replies, no difference"
+    ))
+}
+
+fn read(path: &Path) -> Result<Vec<u8>, String> {
+    std::fs::read(path).map_err(|error| format!("book: {}: {error}", path.display()))
+}
+
+/// One session with a fresh book. Gives how many replies were compared.
+/// Records are numbered from 1.
+fn compare(name: &str, records: &[u8], stored: &[u8]) -> Result<usize, String> {
+    let mut book = Book::fresh();
+    let mut left = stored;
+    let mut count = 0;
+    for record in records.chunks(book::RECORD) {
+        count += 1;
+        // Lent full of a byte no reply has, so that a column left unfilled shows.
+        let mut given = [0xAA_u8; reply::LENGTH];
+        book.call(record, &mut given);
+        let (expected, rest) = left.split_at(left.len().min(reply::LENGTH));
+        if given[..] != *expected {
+            return Err(differ(name, count, &given, expected));
+        }
+        left = rest;
+    }
+    if left.is_empty() {
+        Ok(count)
+    } else {
+        Err(format!(
+            "book: {name}: {} stored bytes after the reply to record {count}, the last",
+            left.len()
+        ))
+    }
+}
+
+fn differ(name: &str, count: usize, given: &[u8], expected: &[u8]) -> String {
+    let given = String::from_utf8_lossy(given);
+    let expected = String::from_utf8_lossy(expected);
+    format!("book: {name}: record {count}: the book says {given:?}, stored is {expected:?}")
+}
