@@ -28,7 +28,7 @@ take-small zero l = omega arith
 take-small (suc n) [] = omega arith
 take-small (suc n) (a ∷ l) = let h = take-small n l in omega arith
 
-text-small : (s : List ℕ) → length (textOf s) ≤ 126
+pub text-small : (s : List ℕ) → length (textOf s) ≤ 126
 unfolding textOf
 text-small s = take-small 126 (drop 1 s)
 

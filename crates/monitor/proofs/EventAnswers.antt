@@ -41,11 +41,11 @@ use Rattle.monitor.proofs.Taken.{lacks-is, all-found}
 use Rattle.monitor.proofs.WorkLaws.{ruleTrees, keeps-all, idWork, work-same, work-kept}
 use Rattle.monitor.proofs.AnswerLaws.{refused-answers, unchanged-refused}
 
-four-at-most : (n : ℕ) → n ≤ 4 → capped 4 n ≡ n
+pub four-at-most : (n : ℕ) → n ≤ 4 → capped 4 n ≡ n
 four-at-most n h = rw (le-leb n 4 h) refl
 
 -- the ids of names that are found
-ids-found : (In : ℕ → Type 0) (g : Name → ℕ) (nm : ℕ → Name) (ws : List Name) → All (λ w. In (g w) × (nm (g w) ≡ w)) ws → All In (map g ws) × (map nm (map g ws) ≡ ws)
+pub ids-found : (In : ℕ → Type 0) (g : Name → ℕ) (nm : ℕ → Name) (ws : List Name) → All (λ w. In (g w) × (nm (g w) ≡ w)) ws → All In (map g ws) × (map nm (map g ws) ≡ ws)
 ids-found In g nm [] h = (tt, refl)
 ids-found In g nm (w ∷ ws) h =
     let rest = ids-found In g nm ws (h .1) in

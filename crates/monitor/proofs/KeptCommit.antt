@@ -18,7 +18,8 @@ use Rattle.patterns.proofs.MeetsLaws.{all-left}
 use Rattle.patterns.proofs.TableNames.{meets-same}
 use Rattle.positions.specs.Sums.{sums, stepOf}
 use Rattle.follow.specs.Meaning.{pastMeaning}
-use Rattle.follow.specs.State.{capped, maxRules, Committed}
+use Rattle.follow.specs.Rules.{RuleStepped}
+use Rattle.follow.specs.State.{capped, maxRules, noRule, Committed}
 use Rattle.follow.specs.declared.rules.Rule as kept
 use Rattle.follow.specs.declared.state.Follower.{Follower}
 use Rattle.follow.proofs.MeaningMap.{sums-map}
@@ -26,7 +27,7 @@ use Rattle.book.specs.Names.{Name, Roles as NamedRoles}
 use Rattle.book.specs.Tracked.{Tracked, Followed, stepNumber, moveOn}
 use Rattle.monitor.specs.Represents.{nameAt, Naming, RuleIs, Rules, rules-none, rules-more, Represents}
 
-module _ (f g : Follower) (t : Tracked) (rep : Represents f t) (e : List ℕ) (es : All (λ i. i < f .roles) e) (c : Committed f e g) where
+module _ (f : Follower) (t : Tracked) (rep : Represents f t) (e : List ℕ) (es : All (λ i. i < f .roles) e) where
   -- what the code judges of ids is what the machine judges of names
   judged : (p : trees.Pattern ℕ) → All (λ i. i < f .roles) (patternNames p)
       → meets (orderOf same (t .roles)) (map (nameAt f) e) (mapPattern (nameAt f) p) ≡ meets (orderIn (f .parents)) e p
@@ -34,19 +35,22 @@ module _ (f g : Follower) (t : Tracked) (rep : Represents f t) (e : List ℕ) (e
       ap (λ (rs : NamedRoles). meets (orderOf same rs) (map (nameAt f) e) (mapPattern (nameAt f) p)) (rep .roles)
       ∙ meets-same same (nameAt f) (f .parents) (f .roles) (rep .naming .ordered) (λ i j h k. rep .naming .distinct i j h k) e es p h
 
-  stepped : (i : ℕ) (r : Followed) → i < f .count → (x : RuleIs f i r) → getD (g .positions) i 0 ≡ stepNumber (t .roles) (r .rule .past) (r .positions) (map (nameAt f) e)
+  -- the positions after one event more, from any positions m
+  pub step-same : (i : ℕ) (r : Followed) → RuleIs f i r → (m w : ℕ) → RuleStepped (getD (f .rules) i noRule) m e (f .parents) w → w ≡ stepNumber (t .roles) (r .rule .past) m (map (nameAt f) e)
   unfolding stepNumber ruleNames
+  step-same i r x m w h =
+      let names : All (λ j. j < f .roles) (pastNames (x .tree .past)) = all-left (λ j. j < f .roles) (pastNames (x .tree .past)) _ (x .ids) in
+      h .right (x .tree) (x .keeps .spelled)
+      ∙ ap (stepOf m)
+        (sym (sums-map (nameAt f) (λ j. j < f .roles) m (meets (orderIn (f .parents)) e) (meets (orderOf same (t .roles)) (map (nameAt f) e)) judged (x .tree .past) names 1)
+        ∙ ap (λ (p : trees.Past Name). sums m (meets (orderOf same (t .roles)) (map (nameAt f) e)) (pastMeaning p) 1) (sym (x .past)))
+
+module _ (f g : Follower) (t : Tracked) (rep : Represents f t) (e : List ℕ) (es : All (λ i. i < f .roles) e) (c : Committed f e g) where
+  stepped : (i : ℕ) (r : Followed) → i < f .count → (x : RuleIs f i r) → getD (g .positions) i 0 ≡ stepNumber (t .roles) (r .rule .past) (r .positions) (map (nameAt f) e)
   stepped i r k x =
       let held : i < capped maxRules (f .count) = rw (le-leb (f .count) 32 (rep .few)) k in
-      let names : All (λ j. j < f .roles) (pastNames (x .tree .past)) = all-left (λ j. j < f .roles) (pastNames (x .tree .past)) _ (x .ids) in
-      c .positions i held .right (x .tree) (x .keeps .spelled)
-      ∙ ap (λ (m : ℕ). stepOf m (sums m (meets (orderIn (f .parents)) e) (pastMeaning (x .tree .past)) 1)) (x .positions)
-      ∙ ap (stepOf (r .positions))
-      (sym (sums-map (nameAt f) (λ j. j < f .roles) (r .positions) (meets (orderIn (f .parents)) e) (meets (orderOf same (t .roles)) (map (nameAt f) e)) judged (x .tree .past) names 1)
-      ∙ ap (λ (p : trees.Past Name). sums (r .positions) (meets (orderOf same (t .roles)) (map (nameAt f) e)) (pastMeaning p) 1) (sym (x .past)))
-
-  same-names : (i : ℕ) → nameAt g i ≡ nameAt f i
-  same-names i = rw (c .names) refl
+      step-same f t rep e es i r x (getD (f .positions) i 0) (getD (g .positions) i 0) (c .positions i held)
+      ∙ ap (λ (m : ℕ). stepNumber (t .roles) (r .rule .past) m (map (nameAt f) e)) (x .positions)
 
   rule-kept : (i : ℕ) (r : Followed) → i < f .count → RuleIs f i r → RuleIs g i (moveOn (t .roles) (map (nameAt f) e) r)
   rule-kept i r k x =

@@ -122,7 +122,7 @@ module _ (f : Follower) (t : Tracked) (rep : Represents f t) where
         let late = all-right Id (pastNames (x .tree .past)) (patternNames (x .tree .trigger) ++ responseNames (x .tree .response)) (x .ids) in
         (all-left Id (patternNames (x .tree .trigger)) (responseNames (x .tree .response)) late, all-right Id (patternNames (x .tree .trigger)) (responseNames (x .tree .response)) late)
 
-    ends-same : endNumber (r .rule .past) ≡ getD (f .rules) k noRule .ends
+    pub ends-same : endNumber (r .rule .past) ≡ getD (f .rules) k noRule .ends
     ends-same =
         ap endNumber (x .past)
         ∙ ap endsOf (sums-map (nameAt f) Id 0 (λ q. false) (λ q. false) (λ p h. refl) (x .tree .past) past-ids 1)

@@ -1,0 +1,2 @@
+pub mod HearLaws
+pub mod ListLaws

@@ -1,0 +1,87 @@
+-- The judge. Document 01: "The judge checks 9, then 10, then its records in turn by 3, 4 and 6; the first refusal found is its answer. It otherwise says
+-- yes or no and writes nothing."
+-- Assumes nothing.
+use mathlib.Core.Bool.{Bool, cond, _&&_}
+use mathlib.Core.List.{List, [], _∷_, _++_}
+use mathlib.Core.Option.{Option, none, some}
+use Prim.Native.Nat.{ℕ, zero, suc, _/_, _%_}
+use lib.Dec.{eqb, leb}
+use lib.ListN.{length, take, drop}
+use Rattle.lexer.specs.Words.{same}
+use Rattle.grammar.specs.AsRead.{Past, Line, role, rule, event}
+use Rattle.grammar.specs.Lines.{readEvent}
+use Rattle.frame.specs.Text.{textOf}
+use Rattle.frame.specs.Record.{frameOf}
+use Rattle.frame.specs.declared.records.Frame.{Frame}
+use Rattle.frame.specs.declared.records.Frame.the-variants.{Line as LineRecord, Event as EventRecord, WrongLength, Malformed as MalformedRecord}
+use Rattle.patterns.specs.Roles.{allHeld}
+use Rattle.patterns.specs.Meets.{orderOf, meets}
+use Rattle.positions.specs.Matcher.{matches}
+use Rattle.follow.specs.Meaning.{pastMeaning}
+use Rattle.book.specs.Names.{Event, Roles, Rule}
+use Rattle.book.specs.Tracked.{Followed, Tracked}
+use Rattle.judge.specs.declared.hearing.Verdict.{Verdict}
+use Rattle.judge.specs.declared.hearing.Verdict.the-variants.{Yes, No, NoRule, NotWhole, Malformed, NotInLanguage, Unknown}
+
+-- document 01's number of each answer; yes and no refuse nothing
+abbrev pub numberOf : Verdict → ℕ
+numberOf Yes = 0
+numberOf No = 0
+numberOf NoRule = 9
+numberOf NotWhole = 10
+numberOf Malformed = 3
+numberOf NotInLanguage = 4
+numberOf Unknown = 6
+
+-- what a record gives: an event, or a refusal
+pub data Heard : Type 0 where
+  act : Event → Heard
+  turned : Verdict → Heard
+
+-- 4, "text not in the language", then 6, "a role used .. isn't declared"
+unfoldable pub hearText : Roles → Option Line → Heard
+hearText rs none = turned NotInLanguage
+hearText rs (some (role w p)) = turned NotInLanguage
+hearText rs (some (rule w p t x)) = turned NotInLanguage
+hearText rs (some (event e)) = cond (allHeld same rs e) (act e) (turned Unknown)
+
+-- 3, "byte 0 not `L` or `E` (judge: not `E`)"
+unfoldable pub hearFrame : Roles → Frame → List ℕ → Heard
+hearFrame rs EventRecord s = hearText rs (readEvent s)
+hearFrame rs LineRecord s = turned Malformed
+hearFrame rs WrongLength s = turned Malformed
+hearFrame rs MalformedRecord s = turned Malformed
+
+unfoldable pub hear : Roles → List ℕ → Heard
+hear rs s = hearFrame rs (frameOf s) (textOf s)
+
+-- the first n records of a buffer
+abbrev pub recordsOf : ℕ → List ℕ → List (List ℕ)
+recordsOf zero s = []
+recordsOf (suc n) s = take 128 s ∷ recordsOf n (drop 128 s)
+
+abbrev pub onHeard : Heard → (Event → Verdict) → Verdict
+onHeard (act e) go = go e
+onHeard (turned v) go = v
+
+-- "its records in turn", and then yes or no by Appendix A over the list given: es are the events so far
+unfoldable pub judgeRecords : Roles → Past → List Event → List (List ℕ) → Verdict
+judgeRecords rs p es [] = cond (matches (meets (orderOf same rs)) (pastMeaning p) es) Yes No
+judgeRecords rs p es (r ∷ l) = onHeard (hear rs r) (λ e. judgeRecords rs p (es ++ (e ∷ [])) l)
+
+-- "no rule of that number (0 is the first)"; rules stand the last declared first
+abbrev pub ruleAt : List Followed → ℕ → Option Rule
+ruleAt [] i = none
+ruleAt (x ∷ l) i = cond (eqb i (length l)) (some (x .rule)) (ruleAt l i)
+
+-- the opposite of "buffer not whole records, or over 256 of them"
+unfoldable pub isWhole : List ℕ → Bool
+isWhole s = eqb (length s % 128) 0 && leb (length s) 32768
+
+abbrev pub onRule : Option Rule → (Rule → Verdict) → Verdict
+onRule none go = NoRule
+onRule (some r) go = go r
+
+-- 9, then 10, then the records
+unfoldable pub judgeOf : Tracked → ℕ → List ℕ → Verdict
+judgeOf t i s = onRule (ruleAt (t .rules) i) (λ r. cond (isWhole s) (judgeRecords (t .roles) (r .past) [] (recordsOf (length s / 128) s)) NotWhole)

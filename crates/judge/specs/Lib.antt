@@ -1,0 +1,3 @@
+pub mod Judge
+pub mod Hearing
+pub mod Judging
