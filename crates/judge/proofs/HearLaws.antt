@@ -2,7 +2,7 @@
 -- Assumes nothing.
 use mathlib.Core.Path.{_≡_, refl, sym, ap, _∙_, subst}
 use mathlib.Core.Bool.{Bool, true, false, not}
-use mathlib.Core.List.{List, [], _∷_, map}
+use mathlib.Core.List.{List, map}
 use mathlib.Core.Option.{Option, none, some}
 use Prim.Native.Nat.{ℕ, _≤_, _<_}
 use native.Mathlib.Omega.{arith}
@@ -14,15 +14,13 @@ use Rattle.grammar.specs.Lines.{Says, readEvent, isSome}
 use Rattle.grammar.proofs.Language.{event-taken}
 use Rattle.frame.specs.Text.{textOf}
 use Rattle.frame.specs.Record.{frameOf}
-use Rattle.frame.specs.declared.records.Frame.{Frame}
 use Rattle.frame.specs.declared.records.Frame.the-variants.{Line as LineRecord, Event as EventRecord, WrongLength, Malformed as MalformedRecord}
 use Rattle.code.specs.Code.{idOf}
 use Rattle.code.specs.Lines.{EventTold, EventRead}
 use Rattle.code.specs.declared.lines.EventLine.{EventLine}
 use Rattle.patterns.specs.All.{All}
 use Rattle.patterns.specs.Roles.{allHeld}
-use Rattle.follow.specs.State.{capped, maxRoles, eventOf}
-use Rattle.follow.specs.declared.state.Event.{Event}
+use Rattle.follow.specs.State.{eventOf}
 use Rattle.follow.specs.declared.state.Follower.{Follower}
 use Rattle.book.specs.Names.{Name}
 use Rattle.book.specs.Tracked.{Tracked}
@@ -75,7 +73,7 @@ module _ (ns s : List ℕ) (l : EventLine) (said : isSome (readEvent s) ≡ true
         let held = held-from (allHeld same (t .roles) ws) (sym is-unknown ∙ e) in
         let ids = ids-found (λ i. i < f .roles) (idOf (tableOf f)) (nameAt f) ws (all-found f z t rep ws words held) in
         let event-is : eventOf (record { len = l .len; roles = l .roles }) ≡ map (idOf (tableOf f)) ws =
-            ap (λ (k : ℕ). take k (l .roles)) (four-at-most (l .len) (read .small)) ∙ told .roles in
+        ap (λ (k : ℕ). take k (l .roles)) (four-at-most (l .len) (read .small)) ∙ told .roles in
         rw held (refl, subst (λ (x : List ℕ). All (λ i. i < f .roles) x) (sym event-is) (ids .0), ap (map (nameAt f)) event-is ∙ ids .1)
 
   by-event : (f : Follower) (t : Tracked) (r : Heard) → ((ws : List Name) → Says s (event ws) → HeardAs f (hearText (t .roles) (some (event ws))) r)

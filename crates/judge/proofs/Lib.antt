@@ -1,2 +1,3 @@
 pub mod HearLaws
 pub mod ListLaws
+pub mod Verdicts

@@ -1,34 +1,28 @@
 -- A list of records judged by positions is judged by Appendix A.
 -- Assumes nothing.
 use mathlib.Core.Path.{_≡_, refl, sym, ap, ap₂, _∙_, subst}
-use mathlib.Core.Bool.{Bool, true, false, cond, _&&_}
+use mathlib.Core.Bool.{Bool, true, false, cond}
 use mathlib.Core.List.{List, [], _∷_, _++_, map}
 use mathlib.Core.Logic.{⊎-elim}
-use mathlib.Core.Option.{Option, none, some}
+use mathlib.Core.Option.{none, some}
 use Prim.Native.Nat.{ℕ, zero, suc, _+_, _-_, _*_, _/_, _%_, _≤_, _<_}
 use native.Mathlib.Omega.{arith}
-use lib.Dec.{eqb, leb, ltb}
+use lib.Dec.{eqb}
 use lib.ListN.{length, take, drop, getD, length-drop}
-use borrow.Author.Tests.{eq-eqb, ne-eqb, eqb-true, eqb-false, le-leb, lt-leb, leb-true, leb-false}
-use Rattle.lexer.specs.Words.{same}
+use borrow.Author.Tests.{eq-eqb, ne-eqb, le-leb, lt-leb}
 use Rattle.lexer.specs.Tokens.{last}
 use Rattle.lexer.proofs.Bools.{true-not-false}
 use Rattle.grammar.specs.Size.{sizePast}
 use Rattle.grammar.specs.AsRead.{Past}
-use Rattle.grammar.specs.Rename.{mapPast}
 use Rattle.grammar.proofs.RenameLaws.{size-map}
-use Rattle.grammar.specs.Names.{ruleNames, pastNames}
 use Rattle.code.specs.Count.{limit}
 use Rattle.patterns.specs.All.{All}
-use Rattle.patterns.proofs.MeetsLaws.{all-left}
 use Rattle.positions.specs.Sets.{shares}
-use Rattle.positions.specs.Sums.{endsOf}
 use Rattle.follow.specs.Rules.{RuleStepped}
 use Rattle.follow.specs.State.{capped, maxRules, noRule, eventOf}
 use Rattle.follow.specs.declared.rules.Rule as kept
 use Rattle.follow.specs.declared.state.Follower.{Follower}
-use Rattle.follow.proofs.MeaningMap.{sums-map}
-use Rattle.book.specs.Names.{Name, Event, Rule}
+use Rattle.book.specs.Names.{Event, Rule}
 use Rattle.book.specs.Tracked.{Followed, Tracked, startNumber, endNumber, numberAfter, stepNumber}
 use Rattle.book.proofs.Numbers.{number-end, number-decides}
 use Rattle.monitor.specs.Represents.{nameAt, Sized, RuleIs, Rules, rules-none, rules-more, Represents}
@@ -36,11 +30,11 @@ use Rattle.monitor.proofs.KeptCommit.{step-same}
 use Rattle.monitor.proofs.Lists.{split}
 use Rattle.monitor.proofs.WorkLaws.{ends-same}
 use Rattle.judge.specs.Judge as judge
-use Rattle.judge.specs.Judge.{act, turned, hear, recordsOf, onHeard, judgeRecords, ruleAt, isWhole, onRule, judgeOf}
+use Rattle.judge.specs.Judge.{act, turned, hear, recordsOf, onHeard, judgeRecords, ruleAt, isWhole, judgeOf}
 use Rattle.judge.specs.Hearing.{HeardAs, tableOf, RecordHeard}
 use Rattle.judge.specs.Judging.{said, ListJudged, Judged}
 use Rattle.judge.specs.declared.hearing.Verdict.{Verdict}
-use Rattle.judge.specs.declared.hearing.Verdict.the-variants.{Yes, No, NoRule, NotWhole}
+use Rattle.judge.specs.declared.hearing.Verdict.the-variants.{NoRule, NotWhole}
 use Rattle.judge.specs.declared.hearing.Heard.{Heard}
 
 -- what is left after the first record
@@ -99,13 +93,13 @@ list-more rule m w s ns ps h r heard fine long step rest = record { right = λ f
     go f z q p t rep i x c is k es e (suc n) l =
         one f t (x .rule .past) es (recordsOf n (drop 128 s)) (hear (t .roles) (take 128 s)) (heard .right f z q t rep)
         (λ ids.
-          let named = map (nameAt f) (eventOf (h .event)) in
-          let stepped = subst (λ (y : kept.Rule). RuleStepped y m (eventOf (h .event)) (f .parents) w) (sym k) (subst (λ (y : List ℕ). RuleStepped rule m (eventOf (h .event)) y w) p step) in
-          let next : w ≡ numberAfter (t .roles) (x .rule .past) startNumber (es ++ (named ∷ [])) =
-              step-same f t rep (eventOf (h .event)) ids i x is m w stepped
-              ∙ ap (λ (y : ℕ). stepNumber (t .roles) (x .rule .past) y named) e
-              ∙ sym (number-end (t .roles) (x .rule .past) startNumber es named) in
-          rest .right f z q p t rep i x c is k (es ++ (named ∷ [])) next n (length-drop 128 s ∙ omega arith))
+        let named = map (nameAt f) (eventOf (h .event)) in
+        let stepped = subst (λ (y : kept.Rule). RuleStepped y m (eventOf (h .event)) (f .parents) w) (sym k) (subst (λ (y : List ℕ). RuleStepped rule m (eventOf (h .event)) y w) p step) in
+        let next : w ≡ numberAfter (t .roles) (x .rule .past) startNumber (es ++ (named ∷ [])) =
+        step-same f t rep (eventOf (h .event)) ids i x is m w stepped
+        ∙ ap (λ (y : ℕ). stepNumber (t .roles) (x .rule .past) y named) e
+        ∙ sym (number-end (t .roles) (x .rule .past) startNumber es named) in
+        rest .right f z q p t rep i x c is k (es ++ (named ∷ [])) next n (length-drop 128 s ∙ omega arith))
 
 -- as many rules as are kept
 rules-long : (f : Follower) (k : ℕ) (l : List Followed) → Rules f k l → length l ≡ k
@@ -125,14 +119,24 @@ rule-at f (suc k) (y ∷ l) i (rules-more is rest) h = ⊎-elim (λ m. before (r
         (d .0, d .1, ap (λ (b : Bool). cond b (some (y .rule)) (ruleAt l i)) (ap (eqb i) (rules-long f k l rest) ∙ ne-eqb i k (λ e. absurd (omega arith))) ∙ d .2)
 
     last : i ≡ k → Found f (y ∷ l) i
-    last e =
-        (y, subst (λ (j : ℕ). RuleIs f j y) (sym e) is,
-          ap (λ (b : Bool). cond b (some (y .rule)) (ruleAt l i)) (ap (eqb i) (rules-long f k l rest) ∙ eq-eqb i k e))
+    last e = (
+      y,
+      subst (λ (j : ℕ). RuleIs f j y) (sym e) is,
+      ap (λ (b : Bool). cond b (some (y .rule)) (ruleAt l i)) (ap (eqb i) (rules-long f k l rest) ∙ eq-eqb i k e),
+    )
 
 no-rule-at : (f : Follower) (k : ℕ) (l : List Followed) (i : ℕ) → Rules f k l → k ≤ i → ruleAt l i ≡ none
 no-rule-at f zero [] i rules-none h = refl
 no-rule-at f (suc k) (y ∷ l) i (rules-more is rest) h =
     ap (λ (b : Bool). cond b (some (y .rule)) (ruleAt l i)) (ap (eqb i) (rules-long f k l rest) ∙ ne-eqb i k (λ e. absurd (omega arith))) ∙ no-rule-at f k l i rest (omega arith)
+
+pub part-uneven : (s : List ℕ) → (length s % 128 ≡ 0 → ⊥) → isWhole s ≡ false
+unfolding isWhole
+part-uneven s h = rw (ne-eqb (length s % 128) 0 h) refl
+
+pub part-long : (s : List ℕ) → length s % 128 ≡ 0 → 32768 < length s → isWhole s ≡ false
+unfolding isWhole
+part-long s h k = rw (eq-eqb (length s % 128) 0 h, lt-leb (length s) 32768 k) refl
 
 module _ (f : Follower) (i : ℕ) (s : List ℕ) where
   held-is : (t : Tracked) → Represents f t → capped maxRules (f .count) ≡ f .count
@@ -152,14 +156,6 @@ module _ (f : Follower) (i : ℕ) (s : List ℕ) where
   pub judged-part : (n : ℕ) → n ≡ capped maxRules (f .count) → (n ≤ i → ⊥) → isWhole s ≡ false → Judged f i s NotWhole
   unfolding judgeOf
   judged-part n e h w = record { right = λ t rep. let d = found t rep n e h in rw (d .1 .2, w) refl }
-
-  pub part-uneven : (length s % 128 ≡ 0 → ⊥) → isWhole s ≡ false
-  unfolding isWhole
-  part-uneven h = rw (ne-eqb (length s % 128) 0 h) refl
-
-  pub part-long : length s % 128 ≡ 0 → 32768 < length s → isWhole s ≡ false
-  unfolding isWhole
-  part-long h k = rw (eq-eqb (length s % 128) 0 h, lt-leb (length s) 32768 k) refl
 
   pub judged-list : (n : ℕ) (ns ps : List ℕ) (r : Verdict) → n ≡ capped maxRules (f .count) → (n ≤ i → ⊥) → length s % 128 ≡ 0 → length s ≤ 32768 → Sized f → ns ≡ tableOf f → ps ≡ f .parents
       → ListJudged (getD (f .rules) i noRule) 1 s ns ps r → Judged f i s r

@@ -1,6 +1,6 @@
 -- An event is committed: the state represents the machine whose positions have moved on.
 -- Assumes nothing.
-use mathlib.Core.Path.{_≡_, refl, sym, ap, _∙_, subst}
+use mathlib.Core.Path.{_≡_, sym, ap, _∙_, subst}
 use mathlib.Core.List.{List, [], _∷_, map}
 use Prim.Native.Nat.{ℕ, zero, suc, _≤_, _<_}
 use native.Mathlib.Omega.{arith}
@@ -42,8 +42,8 @@ module _ (f : Follower) (t : Tracked) (rep : Represents f t) (e : List ℕ) (es 
       let names : All (λ j. j < f .roles) (pastNames (x .tree .past)) = all-left (λ j. j < f .roles) (pastNames (x .tree .past)) _ (x .ids) in
       h .right (x .tree) (x .keeps .spelled)
       ∙ ap (stepOf m)
-        (sym (sums-map (nameAt f) (λ j. j < f .roles) m (meets (orderIn (f .parents)) e) (meets (orderOf same (t .roles)) (map (nameAt f) e)) judged (x .tree .past) names 1)
-        ∙ ap (λ (p : trees.Past Name). sums m (meets (orderOf same (t .roles)) (map (nameAt f) e)) (pastMeaning p) 1) (sym (x .past)))
+      (sym (sums-map (nameAt f) (λ j. j < f .roles) m (meets (orderIn (f .parents)) e) (meets (orderOf same (t .roles)) (map (nameAt f) e)) judged (x .tree .past) names 1)
+      ∙ ap (λ (p : trees.Past Name). sums m (meets (orderOf same (t .roles)) (map (nameAt f) e)) (pastMeaning p) 1) (sym (x .past)))
 
 module _ (f g : Follower) (t : Tracked) (rep : Represents f t) (e : List ℕ) (es : All (λ i. i < f .roles) e) (c : Committed f e g) where
   stepped : (i : ℕ) (r : Followed) → i < f .count → (x : RuleIs f i r) → getD (g .positions) i 0 ≡ stepNumber (t .roles) (r .rule .past) (r .positions) (map (nameAt f) e)

@@ -5,12 +5,6 @@ use Rattle.judge.proofs.HearLaws.{record-event, record-line, record-sho
 use borrow.Author.Needs.{needs}
 use Rattle.judge.proofs.hearing.hear.Statement.{statement}
 use Rattle.judge.proofs.hearing.hear.Tie as tie
-use Rattle.judge.proofs.hearing.hear.Reads as reads
-use Rattle.judge.proofs.hearing.hear.Lts as lts
-use Rattle.frame.proofs.framed.Reads as framed-reads
-use Rattle.frame.proofs.text.Reads as text-reads
-use Rattle.judge.proofs.hearing.hear_text.Reads as hear-text-reads
-use Rattle.judge.proofs.hearing.turned.Reads as turned-reads
 
 -- src/hearing.rt:71:11
 framed-requires : tie.Need-framed-requires

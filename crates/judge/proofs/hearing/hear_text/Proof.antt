@@ -5,11 +5,6 @@ use Rattle.judge.proofs.HearLaws.{text-none, text-unknown, text-known}
 use borrow.Author.Needs.{needs}
 use Rattle.judge.proofs.hearing.hear_text.Statement.{statement}
 use Rattle.judge.proofs.hearing.hear_text.Tie as tie
-use Rattle.judge.proofs.hearing.hear_text.Reads as reads
-use Rattle.judge.proofs.hearing.hear_text.Lts as lts
-use Rattle.code.proofs.event_line.Reads as event-line-reads
-use Rattle.grammar.proofs.is_event.Reads as is-event-reads
-use Rattle.judge.proofs.hearing.turned.Reads as turned-reads
 
 -- src/hearing.rt:48:8
 is-event-requires : tie.Need-is-event-requires

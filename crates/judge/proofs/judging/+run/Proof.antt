@@ -51,8 +51,11 @@ run-slice-aggregate-rule-step t c =
 run-run-requires : (t : ℕ) → run-lts.Need-run-requires (run-claims t) (run-at t) run.Post
 run-run-requires t c κs =
     let e = c .before .before .before .before .before .before .before .before .before in
-    let l = rest-shorter _ _ (e .if1 .left) (c .rest .ensures) in
-    omega arith
+    let a = e .before .before .before .before in
+    let l : length (c .rest .result .now) < length (a .args .records .now) = rest-shorter (a .args .records .now) (c .rest .result .now) (e .if1 .left) (c .rest .ensures) in
+    let m : length (a .args .records .now) ≡ t = a .pre .0 in
+    let n : length (c .rest .result .now) < t = omega (arith, l, m) in
+    (n, search needs)
 
 run-returns-2 : (t : ℕ) → run-lts.Need-returns-2 (run-claims t) (run-at t) run.Post
 run-returns-2 t c =
