@@ -30,7 +30,7 @@ use Rattle.monitor.proofs.KeptCommit.{step-same}
 use Rattle.monitor.proofs.Lists.{split}
 use Rattle.monitor.proofs.WorkLaws.{ends-same}
 use Rattle.judge.specs.Judge as judge
-use Rattle.judge.specs.Judge.{act, turned, hear, recordsOf, onHeard, judgeRecords, ruleAt, isWhole, judgeOf}
+use Rattle.judge.specs.Judge.{heardEvent, turned, hear, recordsOf, onHeard, judgeRecords, ruleAt, isWhole, judgeOf}
 use Rattle.judge.specs.Hearing.{HeardAs, tableOf, RecordHeard}
 use Rattle.judge.specs.Judging.{said, ListJudged, Judged}
 use Rattle.judge.specs.declared.hearing.Verdict.{Verdict}
@@ -68,7 +68,7 @@ unfolding judgeRecords
 list-turned rule m s ns ps h heard bad long = record { right = λ f z q p t rep i x c is k es e n l. go f z q t rep i x es n l }
   where
     one : (f : Follower) (t : Tracked) (p : Past) (es : List Event) (l : List (List ℕ)) (x : judge.Heard) → HeardAs f x h → h .verdict ≡ onHeard x (λ e. judgeRecords (t .roles) p (es ++ (e ∷ [])) l)
-    one f t p es l (act e) k = absurd (true-not-false (h .ok) (k .0) bad)
+    one f t p es l (heardEvent e) k = absurd (true-not-false (h .ok) (k .0) bad)
     one f t p es l (turned v) k = k .1
 
     go : (f : Follower) (z : Sized f) → ns ≡ tableOf f → (t : Tracked) → Represents f t → (i : ℕ) (x : Followed) (es : List Event) (n : ℕ) → length s ≡ n * 128 → h .verdict ≡ judgeRecords (t .roles) (x .rule .past) es (recordsOf n s)
@@ -84,7 +84,7 @@ list-more rule m w s ns ps h r heard fine long step rest = record { right = λ f
     one : (f : Follower) (t : Tracked) (p : Past) (es : List Event) (l : List (List ℕ)) (x : judge.Heard) → HeardAs f x h
         → ((ids : All (λ i. i < f .roles) (eventOf (h .event))) → r ≡ judgeRecords (t .roles) p (es ++ (map (nameAt f) (eventOf (h .event)) ∷ [])) l)
         → r ≡ onHeard x (λ e. judgeRecords (t .roles) p (es ++ (e ∷ [])) l)
-    one f t p es l (act e) k g = g (k .1) ∙ ap (λ (y : Event). judgeRecords (t .roles) p (es ++ (y ∷ [])) l) (k .2)
+    one f t p es l (heardEvent e) k g = g (k .1) ∙ ap (λ (y : Event). judgeRecords (t .roles) p (es ++ (y ∷ [])) l) (k .2)
     one f t p es l (turned v) k g = absurd (true-not-false (h .ok) fine (k .0))
 
     go : (f : Follower) (z : Sized f) → ns ≡ tableOf f → ps ≡ f .parents → (t : Tracked) (rep : Represents f t) (i : ℕ) (x : Followed) (c : i < f .count) (is : RuleIs f i x) → getD (f .rules) i noRule ≡ rule

@@ -13,14 +13,14 @@ use Rattle.positions.specs.Matcher.{matches}
 use Rattle.positions.proofs.Matching.{matches-iff}
 use Rattle.follow.specs.Meaning.{pastMeaning}
 use Rattle.book.specs.Names.{Event, Roles}
-use Rattle.judge.specs.Judge.{Heard, act, hear, onHeard, judgeRecords}
+use Rattle.judge.specs.Judge.{Heard, heardEvent, hear, onHeard, judgeRecords}
 use Rattle.judge.specs.declared.hearing.Verdict.{Verdict}
 use Rattle.judge.specs.declared.hearing.Verdict.the-variants.{Yes, No, NoRule, NotWhole, Malformed, NotInLanguage, Unknown}
 
 -- the records say these events, one each
 pub data Say (rs : Roles) : List (List ℕ) → List Event → Type 0 where
   say-none : Say rs [] []
-  say-more : {r : List ℕ} {l : List (List ℕ)} {e : Event} {es : List Event} → hear rs r ≡ act e → Say rs l es → Say rs (r ∷ l) (e ∷ es)
+  say-more : {r : List ℕ} {l : List (List ℕ)} {e : Event} {es : List Event} → hear rs r ≡ heardEvent e → Say rs l es → Say rs (r ∷ l) (e ∷ es)
 
 append-end : (es : List Event) (e : Event) (fs : List Event) → (es ++ (e ∷ [])) ++ fs ≡ es ++ (e ∷ fs)
 append-end [] e fs = refl

@@ -12,7 +12,7 @@ use Rattle.follow.specs.declared.state.Follower.{Follower}
 use Rattle.book.specs.Tracked.{Tracked}
 use Rattle.monitor.specs.Represents.{nameAt, Sized, Represents}
 use Rattle.judge.specs.Judge as judge
-use Rattle.judge.specs.Judge.{act, turned, hearText, hear}
+use Rattle.judge.specs.Judge.{heardEvent, turned, hearText, hear}
 use Rattle.judge.specs.declared.hearing.Verdict.{Verdict}
 use Rattle.judge.specs.declared.hearing.Heard.{Heard}
 
@@ -21,7 +21,7 @@ turnedAs v = record { ok = false; verdict = v; event = record { len = 0; roles =
 
 -- r is x, with ids for names
 abbrev pub HeardAs : Follower → judge.Heard → Heard → Type 0
-HeardAs f (act ws) r = (r .ok ≡ true) × All (λ i. i < f .roles) (eventOf (r .event)) × (map (nameAt f) (eventOf (r .event)) ≡ ws)
+HeardAs f (heardEvent ws) r = (r .ok ≡ true) × All (λ i. i < f .roles) (eventOf (r .event)) × (map (nameAt f) (eventOf (r .event)) ≡ ws)
 HeardAs f (turned v) r = (r .ok ≡ false) × (r .verdict ≡ v)
 
 -- the names held, as a state has them

@@ -33,9 +33,9 @@ numberOf Malformed = 3
 numberOf NotInLanguage = 4
 numberOf Unknown = 6
 
--- what a record gives: an event, or a refusal
+-- what a record gives: an event (document 01: act), or a refusal
 pub data Heard : Type 0 where
-  act : Event → Heard
+  heardEvent : Event → Heard
   turned : Verdict → Heard
 
 -- 4, "text not in the language", then 6, "a role used .. isn't declared"
@@ -43,7 +43,7 @@ unfoldable pub hearText : Roles → Option Line → Heard
 hearText rs none = turned NotInLanguage
 hearText rs (some (role w p)) = turned NotInLanguage
 hearText rs (some (rule w p t x)) = turned NotInLanguage
-hearText rs (some (event e)) = cond (allHeld same rs e) (act e) (turned Unknown)
+hearText rs (some (event e)) = cond (allHeld same rs e) (heardEvent e) (turned Unknown)
 
 -- 3, "byte 0 not `L` or `E` (judge: not `E`)"
 unfoldable pub hearFrame : Roles → Frame → List ℕ → Heard
@@ -61,7 +61,7 @@ recordsOf zero s = []
 recordsOf (suc n) s = take 128 s ∷ recordsOf n (drop 128 s)
 
 abbrev pub onHeard : Heard → (Event → Verdict) → Verdict
-onHeard (act e) go = go e
+onHeard (heardEvent e) go = go e
 onHeard (turned v) go = v
 
 -- "its records in turn", and then yes or no by Appendix A over the list given: es are the events so far
