@@ -1,0 +1,4 @@
+pub mod Parts
+pub mod SizeLaws
+pub mod RunLaws
+pub mod SheetLaws

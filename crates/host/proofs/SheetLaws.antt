@@ -1,0 +1,76 @@
+-- The monitor that a sheet leaves.
+-- Assumes nothing.
+use mathlib.Core.Path.{_≡_, refl, sym, ap, _∙_, subst}
+use mathlib.Core.Bool.{cond, true, false}
+use mathlib.Core.List.{List, [], _∷_, map}
+use Prim.Native.Nat.{ℕ, zero, suc, _+_, _-_, _*_, _/_, _%_, _≤_, _<_}
+use native.Mathlib.Omega.{arith}
+use lib.Dec.{eqb}
+use lib.ListN.{length, take, drop}
+use borrow.Author.Tests.{eq-eqb, ne-eqb}
+use Rattle.follow.specs.declared.state.Follower.{Follower}
+use Rattle.book.specs.Tracked.{Tracked, freshTracked, trackStep, tracked}
+use Rattle.book.specs.Session.{left}
+use Rattle.book.proofs.Whole.{whole-state}
+use Rattle.monitor.specs.Represents.{Represents}
+use Rattle.monitor.specs.Sessions.{Begun}
+use Rattle.judge.specs.Judge.{recordsOf, judgeOf}
+use Rattle.judge.specs.Judging.{Judged}
+use Rattle.judge.specs.declared.hearing.Verdict.{Verdict}
+use Rattle.host.specs.Sheets.{callOf, bookOf, answerNumber, sheetJudged, Heard, After}
+use Rattle.host.proofs.Parts.{drop-twice}
+
+-- the machine that n records of a sheet leave
+abbrev leaves : Tracked → ℕ → List ℕ → Tracked
+leaves t n s = left trackStep t (map callOf (recordsOf n s))
+
+-- the sheet is heard up to a place: the monitor represents the machine that hears the rest
+pub record HeardTo (sheet : List ℕ) (f : Follower) (at : ℕ) : Type 0 where
+  pub machine : Tracked
+  pub represents : Represents f machine
+  pub more : ℕ
+  pub fits : at + more * 128 ≤ length sheet
+  pub short : length sheet < at + more * 128 + 128
+  pub leads : leaves machine more (drop at sheet) ≡ leaves freshTracked (length sheet / 128) sheet
+
+pub heard-none : (sheet : List ℕ) (f : Follower) → Begun f → HeardTo sheet f 0
+heard-none sheet f b = record { machine = freshTracked; represents = b .fresh; more = length sheet / 128; fits = omega arith; short = omega arith; leads = refl }
+
+-- one record more
+pub heard-more : (sheet : List ℕ) (f g : Follower) (at : ℕ) → HeardTo sheet f at → 128 ≤ length sheet - at → Heard f (take (at + 128 - at) (drop at sheet)) g → HeardTo sheet g (at + 128)
+heard-more sheet f g at p whole h = go (p .more) (p .fits) (p .short) (p .leads)
+  where
+    one : at + 128 - at ≡ 128
+    one = omega arith
+
+    first : List ℕ
+    first = take 128 (drop at sheet)
+
+    go : (m : ℕ) → at + m * 128 ≤ length sheet → length sheet < at + m * 128 + 128 → leaves (p .machine) m (drop at sheet) ≡ leaves freshTracked (length sheet / 128) sheet → HeardTo sheet g (at + 128)
+    go zero fits short leads = absurd (omega (arith, whole, short))
+    go (suc m) fits short leads =
+        record {
+          machine = trackStep (p .machine) (callOf (take 128 (drop at sheet))) .0;
+          represents = subst (λ (i : ℕ). Represents g (trackStep (p .machine) (callOf (take i (drop at sheet))) .0)) one (h .right (p .machine) (p .represents));
+          more = m;
+          fits = omega (arith, fits);
+          short = omega (arith, short);
+          leads = ap (λ (l : List ℕ). leaves (trackStep (p .machine) (callOf (take 128 (drop at sheet))) .0) m l) (sym (drop-twice at 128 sheet)) ∙ leads;
+        }
+
+-- less than a record is left
+pub heard-all : (sheet : List ℕ) (f : Follower) (at : ℕ) → HeardTo sheet f at → length sheet - at < 128 → After sheet f
+heard-all sheet f at p few = go (p .more) (p .fits) (p .leads)
+  where
+    go : (m : ℕ) → at + m * 128 ≤ length sheet → leaves (p .machine) m (drop at sheet) ≡ leaves freshTracked (length sheet / 128) sheet → After sheet f
+    go zero fits leads = record { right = subst (Represents f) (leads ∙ whole-state (map callOf (recordsOf (length sheet / 128) sheet))) (p .represents) }
+    go (suc m) fits leads = absurd (omega (arith, few, fits))
+
+-- the sheet is not whole records
+pub sheet-uneven : (sheet : List ℕ) (i : ℕ) (s : List ℕ) → (length sheet % 128 ≡ 0 → ⊥) → 47244640256 ≡ sheetJudged sheet i s
+unfolding sheetJudged
+sheet-uneven sheet i s h = rw (ne-eqb (length sheet % 128) 0 h) refl
+
+pub sheet-whole : (sheet : List ℕ) (i : ℕ) (s : List ℕ) (f : Follower) (v : Verdict) (r : ℕ) → length sheet % 128 ≡ 0 → After sheet f → Judged f i s v → r ≡ answerNumber v → r ≡ sheetJudged sheet i s
+unfolding sheetJudged
+sheet-whole sheet i s f v r h a j e = rw (eq-eqb (length sheet % 128) 0 h) (e ∙ ap answerNumber (j .right (tracked (bookOf sheet)) (a .right)))

@@ -1,0 +1,15 @@
+-- `stand_judge` asks the judge on the monitor that the sheet leaves.
+-- Assumes nothing.
+use borrow.Author.Needs.{needs}
+use Rattle.host.proofs.SheetLaws.{sheet-uneven, sheet-whole}
+use Rattle.host.proofs.stand_judge.Statement.{statement}
+use Rattle.host.proofs.stand_judge.Tie as tie
+
+returns : tie.Need-returns
+returns c = sheet-uneven _ _ _ (c .if1 .taken)
+
+returns-2 : tie.Need-returns-2
+returns-2 c = sheet-whole _ _ _ _ _ _ (c .before .before .before .if1 .left) (c .before .before .after .ensures) (c .before .judge .ensures) (c .number-of .ensures)
+
+pub stand-judge-spec : {M : Type 1} → statement M
+stand-judge-spec = tie.close (tie.spec (λ c. search needs) returns (λ c κs. search needs) (λ c κs. search needs) (λ c κs. search needs) returns-2)

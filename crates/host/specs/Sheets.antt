@@ -1,0 +1,47 @@
+-- The judge over a sheet, as a host hands it over.
+-- Assumes nothing.
+use mathlib.Core.Path.{_≡_}
+use mathlib.Core.Bool.{cond}
+use mathlib.Core.List.{List, [], _∷_, map}
+use Prim.Native.Nat.{ℕ, zero, suc, _*_, _+_, _/_, _%_}
+use lib.Dec.{eqb}
+use lib.ListN.{length, replicate}
+use Rattle.follow.specs.declared.state.Follower.{Follower}
+use Rattle.book.specs.Decide.{Call}
+use Rattle.book.specs.Book.{Book, freshBook, bookStep}
+use Rattle.book.specs.Tracked.{Tracked, trackStep, tracked}
+use Rattle.book.specs.Session.{left}
+use Rattle.monitor.specs.Represents.{Represents}
+use Rattle.judge.specs.Judge.{numberOf, recordsOf, judgeOf}
+use Rattle.judge.specs.declared.hearing.Verdict.{Verdict}
+use Rattle.judge.specs.declared.hearing.Verdict.the-variants.{Yes, No, NoRule, NotWhole, Malformed, NotInLanguage, Unknown}
+
+-- a record handed over with a buffer of 50 bytes, whose reply is dropped
+abbrev pub callOf : List ℕ → Call
+callOf s = record { bytes = s; buffer = replicate 50 0 }
+
+-- the book that the whole records of a sheet leave
+abbrev pub bookOf : List ℕ → Book
+bookOf s = left bookStep freshBook (map callOf (recordsOf (length s / 128) s))
+
+-- document 01's number of the refusal in the upper half, and 1 for yes
+abbrev pub answerNumber : Verdict → ℕ
+answerNumber Yes = 1
+answerNumber No = 0
+answerNumber NoRule = numberOf NoRule * 4294967296
+answerNumber NotWhole = numberOf NotWhole * 4294967296
+answerNumber Malformed = numberOf Malformed * 4294967296
+answerNumber NotInLanguage = numberOf NotInLanguage * 4294967296
+answerNumber Unknown = numberOf Unknown * 4294967296
+
+-- the judge's answer of the rules that the sheet leaves; 11 where the sheet is not whole records
+unfoldable pub sheetJudged : List ℕ → ℕ → List ℕ → ℕ
+sheetJudged sheet i s = cond (eqb (length sheet % 128) 0) (answerNumber (judgeOf (tracked (bookOf sheet)) i s)) (11 * 4294967296)
+
+-- the monitor after a record
+pub record Heard (f : Follower) (s : List ℕ) (r : Follower) : Type 0 where
+  pub right : (t : Tracked) → Represents f t → Represents r (trackStep t (callOf s) .0)
+
+-- the monitor that a sheet leaves
+pub record After (sheet : List ℕ) (r : Follower) : Type 0 where
+  pub right : Represents r (tracked (bookOf sheet))

@@ -1,0 +1,34 @@
+/* The stand monitor for other languages: `rt staticlib host` writes target/staticlib/libhost.a, for x86-64 Linux.
+ *
+ * Every call takes any bytes of any length and keeps nothing between calls. Buffers must not overlap; a pointer with length 0 may be any aligned
+ * address that is not null. */
+#ifndef STAND_H
+#define STAND_H
+
+#include <stddef.h>
+#include <stdint.h>
+
+#ifdef __cplusplus
+extern "C" {
+#endif
+
+/* A whole session from a fresh monitor. Call k has the next lengths[k] bytes of `records` as its record and the next sizes[k] bytes of `replies` as its
+ * reply buffer; its number (0 when taken, else the refusal's) goes to numbers[k].
+ * Returns 0; or 11, with nothing written, where the three counts differ, or the lengths do not add up to records_len, or the sizes to replies_len. */
+uint32_t stand_session(const uint8_t *records, size_t records_len,
+                       const uint32_t *lengths, size_t lengths_count,
+                       uint8_t *replies, size_t replies_len,
+                       const uint32_t *sizes, size_t sizes_count,
+                       uint8_t *numbers, size_t numbers_count);
+
+/* The judge: whether the acts of `records` (whole records of 128 bytes, at most 256) match the past of rule `number` (0 is the first) of the monitor that a
+ * sheet leaves. The sheet is whole records, handed to a fresh monitor in turn, their replies dropped.
+ * Returns 1 for yes, 0 for no; else a refusal's number times 4,294,967,296: 11 where the sheet is not whole records, then 9, 10, 3, 4 or 6. */
+uint64_t stand_judge(const uint8_t *sheet, size_t sheet_len, uint32_t number,
+                     const uint8_t *records, size_t records_len);
+
+#ifdef __cplusplus
+}
+#endif
+
+#endif
