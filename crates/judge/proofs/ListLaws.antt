@@ -17,6 +17,7 @@ use Rattle.grammar.specs.AsRead.{Past}
 use Rattle.grammar.proofs.RenameLaws.{size-map}
 use Rattle.code.specs.Count.{limit}
 use Rattle.patterns.specs.All.{All}
+use Rattle.patterns.proofs.TableNames.{split}
 use Rattle.positions.specs.Sets.{shares}
 use Rattle.follow.specs.Rules.{RuleStepped}
 use Rattle.follow.specs.State.{capped, maxRules, noRule, eventOf}
@@ -27,7 +28,6 @@ use Rattle.book.specs.Tracked.{Followed, Tracked, startNumber, endNumber, numbe
 use Rattle.book.proofs.Numbers.{number-end, number-decides}
 use Rattle.monitor.specs.Represents.{nameAt, Sized, RuleIs, Rules, rules-none, rules-more, Represents}
 use Rattle.monitor.proofs.KeptCommit.{step-same}
-use Rattle.monitor.proofs.Lists.{split}
 use Rattle.monitor.proofs.WorkLaws.{ends-same}
 use Rattle.judge.specs.Judge as judge
 use Rattle.judge.specs.Judge.{heardEvent, turned, hear, recordsOf, onHeard, judgeRecords, ruleAt, isWhole, judgeOf}
