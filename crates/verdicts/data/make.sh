@@ -76,7 +76,7 @@ refusals() {
     acts | ask 11 'R 09' "$1rule 11 of 11: empty"
     acts uv | ask 32 'R 09' "$1rule 32: uv"
     acts uv | ask 4294967296 'R 09' "$1rule 4294967296: uv"
-    acts uv | ask 999999999999999999 'R 09' "$1rule 999999999999999999: uv"
+    acts uv | ask 9223372036854775807 'R 09' "$1rule 9223372036854775807: uv"
     printf '%129s' '' | ask 11 'R 09' "$1rule 11 of 11: 129 bytes"
     record 'Luv' | ask 11 'R 09' "$1rule 11 of 11: a line"
     # 10, before the records

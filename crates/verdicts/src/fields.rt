@@ -12,7 +12,7 @@ pub fn decimal(digits: &[u8]) -> usize {
     let mut n: usize = 0;
     let mut i: usize = 0;
     while i < digits.len() {
-        if 1000000000000000000 <= n {
+        if 1844674407370955000 <= n {
             return n;
         }
         n = n * 10 + wide(digits[i] % 16);
