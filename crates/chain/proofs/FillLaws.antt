@@ -15,7 +15,7 @@ use Rattle.patterns.proofs.Here.{here}
 use Rattle.follow.specs.State.{capped, eventOf}
 use Rattle.follow.specs.declared.state.Event.{Event}
 use Rattle.chain.specs.Work.{fillSlot, consFilled, fill}
-use Rattle.chain.specs.Responses.{optional, behind, SlotRead, FillRead, TemplateRead}
+use Rattle.chain.specs.Responses.{pickedAs, optional, behind, SlotRead, FillRead, TemplateRead}
 use Rattle.chain.specs.declared.responses.Picked.{Picked}
 use Rattle.chain.specs.declared.responses.Filled.{Filled}
 use Rattle.chain.proofs.Capped.{with, more-roles}
@@ -41,30 +41,27 @@ slots-begin code p [] rest h e = at.none code p _ _ h e
 slots-begin code p (named x ∷ xs) rest h e = at.none code p _ _ h e
 slots-begin code p (place n ∷ xs) rest h e = at.none code p _ _ h e
 
-abbrev refused : ℕ → Picked
-refused p = record { ok = false; role = 0; end = p }
-
 module _ (code : List ℕ) (p : ℕ) (event : List ℕ) where
   abbrev SlotRight : Picked → Type 0
   SlotRight r = (x : Slot ℕ) (xs : Template ℕ) (rest : List ℕ) → drop p code ≡ codeSlots (x ∷ xs) ++ rest
       → (optional (r .ok) (r .role) ≡ fillSlot event x) × (r .ok ≡ true → drop (r .end) code ≡ codeSlots xs ++ rest)
 
-  pub slot-none : length code ≤ p → SlotRead code p event (refused p)
+  pub slot-none : length code ≤ p → SlotRead code p event (pickedAs false 0 p)
   slot-none h = record { right = λ x xs rest e. absurd (slots-begin code p (x ∷ xs) rest h e) }
 
-  pub slot-mark : (getD code p 0 ≡ 35 → ⊥) → getD code p 0 < 128 → SlotRead code p event (refused p)
+  pub slot-mark : (getD code p 0 ≡ 35 → ⊥) → getD code p 0 < 128 → SlotRead code p event (pickedAs false 0 p)
   unfolding codeSlots
   slot-mark n b = record { right = go }
     where
-      go : SlotRight (refused p)
+      go : SlotRight (pickedAs false 0 p)
       go (named w) xs rest e = let h = here code p _ _ e in absurd (omega arith)
       go (place j) xs rest e = absurd (n (here code p _ _ e .byte))
 
-  pub slot-role : (getD code p 0 ≡ 35 → ⊥) → SlotRead code p event (record { ok = true; role = getD code p 0 - 128; end = p + 1 })
+  pub slot-role : (getD code p 0 ≡ 35 → ⊥) → SlotRead code p event (pickedAs true (getD code p 0 - 128) (p + 1))
   unfolding codeSlots fillSlot
   slot-role n = record { right = go }
     where
-      go : SlotRight (record { ok = true; role = getD code p 0 - 128; end = p + 1 })
+      go : SlotRight (pickedAs true (getD code p 0 - 128) (p + 1))
       go (named w) xs rest e =
           let h = here code p _ _ e in
           let b = h .byte in
@@ -79,21 +76,21 @@ module _ (code : List ℕ) (p : ℕ) (event : List ℕ) where
         let c = h .byte in
         (omega arith, h .next)
 
-    pub slot-beyond : length event ≤ k → SlotRead code p event (refused p)
+    pub slot-beyond : length event ≤ k → SlotRead code p event (pickedAs false 0 p)
     unfolding codeSlots fillSlot
     slot-beyond l = record { right = go }
       where
-        go : SlotRight (refused p)
+        go : SlotRight (pickedAs false 0 p)
         go (named w) xs rest e = let h = here code p _ _ e in absurd (omega arith)
         go (place j) xs rest e =
             let q = named-place j _ e .0 in
             (sym (beyond-length event (j - 1) (omega arith)), λ t. absurd (true-not-false false t refl))
 
-    pub slot-place : k < length event → SlotRead code p event (record { ok = true; role = getD event k 0; end = p + 1 + 1 })
+    pub slot-place : k < length event → SlotRead code p event (pickedAs true (getD event k 0) (p + 1 + 1))
     unfolding codeSlots fillSlot
     slot-place l = record { right = go }
       where
-        go : SlotRight (record { ok = true; role = getD event k 0; end = p + 1 + 1 })
+        go : SlotRight (pickedAs true (getD event k 0) (p + 1 + 1))
         go (named w) xs rest e = let h = here code p _ _ e in absurd (omega arith)
         go (place j) xs rest e =
             let q = named-place j _ e .0 in

@@ -17,7 +17,7 @@ use Rattle.follow.specs.declared.state.Follower.{Follower}
 use Rattle.follow.proofs.CommitLaws.{getD-any}
 use Rattle.chain.specs.Work.{Duty}
 use Rattle.chain.specs.Duties.{rulesHeld}
-use Rattle.chain.specs.Responses.{optional, wordOf, madeBy, Gives, AnswerRead}
+use Rattle.chain.specs.Responses.{givenAs, optional, wordOf, madeBy, Gives, AnswerRead}
 use Rattle.chain.specs.Steps.{next, afterResponse, Kept, chainOf, FoundRead, workAfter, steppedTo, standOf, nextOf, lookOf, Fits, StepRead}
 use Rattle.chain.specs.declared.responses.Word.{Word}
 use Rattle.chain.specs.declared.responses.Word.the-variants.{Pass, Hold, Send, Anew}
@@ -27,14 +27,13 @@ use Rattle.chain.specs.declared.steps.Found.{Found}
 use Rattle.chain.specs.declared.steps.Work.{Work}
 use Rattle.chain.specs.declared.steps.Stepped.{Stepped}
 use Rattle.chain.proofs.Capped.{capped-small, capped-le}
-use Rattle.chain.proofs.RespondLaws.{given}
 
 module _ (w : Work) (i count : ℕ) where
   -- a response that has made what it should: the step is that of its tree
   module _ (f : Follower) (ds : ℕ → Duty ℕ ℕ) (ec : count ≡ rulesHeld f) (small : i ≤ count) where
     abbrev Done : Response ℕ → Bool → Event → Type 0
     Done x ok made =
-        nextOf f ds (steppedTo (given (wordOf x) ok made) i count w)
+        nextOf f ds (steppedTo (givenAs (wordOf x) ok made) i count w)
         ≡ afterResponse (lookOf f ds) i (chainOf (f .parents) ds (eventOf (w .looked)) i) (eventOf (w .event)) (w .worked + 1) x
 
     kept-left : capped (rulesHeld f) i ≡ i
@@ -53,14 +52,14 @@ module _ (w : Work) (i count : ℕ) where
     done (anew xs) true made h = rw (all-left, sym h) refl
     done (anew xs) false made h = rw (kept-left, sym h) refl
 
-  pub applied-fits : (word : Word) (ok : Bool) (made : Event) → w .worked < 64 → (w .event .len ≤ 4 → made .len ≤ 4) → Fits w → Fits (workAfter (given word ok made) i count w)
+  pub applied-fits : (word : Word) (ok : Bool) (made : Event) → w .worked < 64 → (w .event .len ≤ 4 → made .len ≤ 4) → Fits w → Fits (workAfter (givenAs word ok made) i count w)
   applied-fits word false made h m k = record { worked = omega arith; event = k .event }
   applied-fits Pass true made h m k = record { worked = omega arith; event = m (k .event) }
   applied-fits Hold true made h m k = record { worked = omega arith; event = m (k .event) }
   applied-fits Send true made h m k = record { worked = omega arith; event = m (k .event) }
   applied-fits Anew true made h m k = record { worked = omega arith; event = m (k .event) }
 
-  pub applied-more : (word : Word) (ok : Bool) (made : Event) → workAfter (given word ok made) i count w .worked ≡ w .worked + 1
+  pub applied-more : (word : Word) (ok : Bool) (made : Event) → workAfter (givenAs word ok made) i count w .worked ≡ w .worked + 1
   applied-more word false made = refl
   applied-more Pass true made = refl
   applied-more Hold true made = refl
@@ -128,7 +127,7 @@ module _ (f : Follower) (ready : List ℕ) (w : Work) (held left : ℕ) (eh : he
         right = λ ds k.
             let s = gives ds k in
             rw (first ds k, lt-ltb (w .worked) 64 h, k .number (n .rule) inside)
-            (ap (λ (z : Word). nextOf f ds (steppedTo (given z (g .ok) (g .event)) (n .rule) count w)) (s .word)
+            (ap (λ (z : Word). nextOf f ds (steppedTo (givenAs z (g .ok) (g .event)) (n .rule) count w)) (s .word)
             ∙ done w (n .rule) count f ds ec (let l = inside in omega arith) (ds (n .rule) .response) (g .ok) (g .event) (s .made));
         row = λ ds k d c q l.
             let z : ds (n .rule) ≡ d = head-eq-of-cons-eq (sym (first ds k) ∙ q) in

@@ -19,6 +19,13 @@ use Rattle.chain.specs.declared.responses.Picked.{Picked}
 use Rattle.chain.specs.declared.responses.Filled.{Filled}
 use Rattle.chain.specs.declared.responses.Given.{Given}
 
+-- what a slot stands for, and what a response gives
+abbrev pub pickedAs : Bool → ℕ → ℕ → Picked
+pickedAs ok role end = record { ok = ok; role = role; end = end }
+
+abbrev pub givenAs : Word → Bool → Event → Given
+givenAs word ok event = record { word = word; ok = ok; event = event }
+
 -- what a flag and a value stand for
 abbrev pub optional : {A : Type 0} → Bool → A → Option A
 optional ok a = cond ok (some a) none

@@ -3,9 +3,10 @@ use follow::Event;
 use follow::Rule;
 use follow::state::capped;
 ghost use mathlib.Core.Path.{_≡_};
+ghost use mathlib.Core.Bool.{true, false};
 ghost use Prim.Native.Nat.{_-_};
 ghost use lib.ListN.{getD};
-ghost use Rattle.chain.specs.Responses.{RolesHeld, SlotRead, FillRead, TemplateRead, GivenRead, AnswerRead};
+ghost use Rattle.chain.specs.Responses.{pickedAs, givenAs, RolesHeld, SlotRead, FillRead, TemplateRead, GivenRead, AnswerRead};
 
 pub enum Word {
     Pass,
@@ -48,46 +49,48 @@ fn index(digit: u8) -> usize
     if digit < 49 { 0 } else { (digit - 49) as usize }
 }
 
+// No slot.
+fn no_slot(at: usize) -> Picked
+    ensures { λ r. ⌜ r ≡ pickedAs false 0 at ⌝ }
+{
+    Picked {
+        ok: false,
+        role: 0,
+        end: at,
+    }
+}
+
+// A slot that stands for a role.
+fn slot_for(role: u8, end: usize) -> Picked
+    ensures { λ r. ⌜ r ≡ pickedAs true role end ⌝ }
+{
+    Picked {
+        ok: true,
+        role: role,
+        end: end,
+    }
+}
+
 // The slot at `at`: a role by its byte, or `#` and a digit.
 fn slot(code: &[u8], at: usize, event: &[u8]) -> Picked
     ensures { λ r. ⌜ SlotRead (now (code .entry)) at (now (event .entry)) r ⌝ }
 {
     if at >= code.len() {
-        return Picked {
-            ok: false,
-            role: 0,
-            end: at,
-        };
+        return no_slot(at);
     }
     let b = code[at];
     if b == b'#' {
         let digit = at + 1;
         let k = index(byte_at(code, digit));
         if k >= event.len() {
-            return Picked {
-                ok: false,
-                role: 0,
-                end: at,
-            };
+            return no_slot(at);
         }
-        return Picked {
-            ok: true,
-            role: event[k],
-            end: digit + 1,
-        };
+        return slot_for(event[k], digit + 1);
     }
     if b < 128 {
-        return Picked {
-            ok: false,
-            role: 0,
-            end: at,
-        };
+        return no_slot(at);
     }
-    Picked {
-        ok: true,
-        role: b - 128,
-        end: at + 1,
-    }
+    slot_for(b - 128, at + 1)
 }
 
 // The slots from at on, behind what is filled already. What falls is the room in the event.
@@ -146,46 +149,37 @@ fn template(code: &[u8], at: usize, event: Event) -> Filled
     fill(code, at, &roles[..held], none)
 }
 
+// What a response gives.
+fn given_by(word: Word, ok: bool, event: Event) -> Given
+    ensures { λ r. ⌜ r ≡ givenAs word ok event ⌝ }
+{
+    Given {
+        word: word,
+        ok: ok,
+        event: event,
+    }
+}
+
 // The response after the `;` at `at`.
 fn respond(code: &[u8], at: usize, event: Event) -> Given
     ensures { λ r. ⌜ GivenRead (now (code .entry)) at event r ⌝ }
 {
     if at >= code.len() {
-        return Given {
-            word: Word::Hold,
-            ok: false,
-            event: event,
-        };
+        return given_by(Word::Hold, false, event);
     }
     let b = byte_at(code, at + 1);
     if b == b'p' {
-        return Given {
-            word: Word::Pass,
-            ok: true,
-            event: event,
-        };
+        return given_by(Word::Pass, true, event);
     }
     if b == b'h' {
-        return Given {
-            word: Word::Hold,
-            ok: true,
-            event: event,
-        };
+        return given_by(Word::Hold, true, event);
     }
     let f = template(code, at + 3, event);
     let made = f.event;
     if b == b's' {
-        return Given {
-            word: Word::Send,
-            ok: f.ok,
-            event: made,
-        };
+        return given_by(Word::Send, f.ok, made);
     }
-    Given {
-        word: Word::Anew,
-        ok: f.ok,
-        event: made,
-    }
+    given_by(Word::Anew, f.ok, made)
 }
 
 // The response of a rule, after the `;` at `at` of its code.
@@ -195,11 +189,7 @@ pub fn answer(rule: Rule, at: usize, event: Event) -> Given
     let code = rule.code;
     let len = rule.len;
     if 126 < len {
-        return Given {
-            word: Word::Hold,
-            ok: false,
-            event: event,
-        };
+        return given_by(Word::Hold, false, event);
     }
     respond(&code[..len], at, event)
 }

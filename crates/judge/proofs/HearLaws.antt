@@ -1,14 +1,14 @@
 -- A record heard is what the judge's definition hears.
 -- Assumes nothing.
 use mathlib.Core.Path.{_≡_, refl, sym, ap, _∙_, subst}
-use mathlib.Core.Bool.{Bool, true, false, not}
+use mathlib.Core.Bool.{true, false, not}
 use mathlib.Core.List.{List, map}
 use mathlib.Core.Option.{Option, none, some}
 use Prim.Native.Nat.{ℕ, _≤_, _<_}
 use native.Mathlib.Omega.{arith}
 use lib.ListN.{length, take}
 use Rattle.lexer.specs.Words.{same}
-use Rattle.lexer.proofs.Bools.{true-not-false}
+use Rattle.lexer.proofs.Bools.{true-not-false, held-from, held-not}
 use Rattle.grammar.specs.AsRead.{Line, role, rule, event}
 use Rattle.grammar.specs.Lines.{Says, readEvent, isSome}
 use Rattle.grammar.proofs.Language.{event-taken}
@@ -34,14 +34,6 @@ use Rattle.judge.specs.Judge.{hearText, hearFrame, hear}
 use Rattle.judge.specs.Hearing.{turnedAs, HeardAs, tableOf, TextHeard, RecordHeard}
 use Rattle.judge.specs.declared.hearing.Verdict.the-variants.{Yes, Malformed, NotInLanguage, Unknown}
 use Rattle.judge.specs.declared.hearing.Heard.{Heard}
-
-held-from : (b : Bool) → not b ≡ false → b ≡ true
-held-from true e = refl
-held-from false e = absurd (true-not-false true refl e)
-
-held-not : (b : Bool) → not b ≡ true → b ≡ false
-held-not true e = absurd (true-not-false false e refl)
-held-not false e = refl
 
 -- a text that says no event
 pub text-none : (ns s : List ℕ) (r : Heard) → isSome (readEvent s) ≡ false → r ≡ turnedAs NotInLanguage → TextHeard ns s r

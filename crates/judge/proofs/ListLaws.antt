@@ -1,13 +1,12 @@
 -- A list of records judged by positions is judged by Appendix A.
 -- Assumes nothing.
 use mathlib.Core.Path.{_≡_, refl, sym, ap, ap₂, _∙_, subst}
-use mathlib.Core.Bool.{Bool, true, false, cond}
+use mathlib.Core.Bool.{true, false}
 use mathlib.Core.List.{List, [], _∷_, _++_, map}
 use mathlib.Core.Logic.{⊎-elim}
 use mathlib.Core.Option.{none, some}
 use Prim.Native.Nat.{ℕ, zero, suc, _+_, _-_, _*_, _/_, _%_, _≤_, _<_}
 use native.Mathlib.Omega.{arith}
-use lib.Dec.{eqb}
 use lib.ListN.{length, take, drop, getD, length-drop}
 use borrow.Author.Tests.{eq-eqb, ne-eqb, le-leb, lt-leb}
 use Rattle.lexer.specs.Tokens.{last}
@@ -17,6 +16,7 @@ use Rattle.grammar.specs.AsRead.{Past}
 use Rattle.grammar.proofs.RenameLaws.{size-map}
 use Rattle.code.specs.Count.{limit}
 use Rattle.patterns.specs.All.{All}
+use Rattle.patterns.proofs.TableNames.{split}
 use Rattle.positions.specs.Sets.{shares}
 use Rattle.follow.specs.Rules.{RuleStepped}
 use Rattle.follow.specs.State.{capped, maxRules, noRule, eventOf}
@@ -27,12 +27,12 @@ use Rattle.book.specs.Tracked.{Followed, Tracked, startNumber, endNumber, numbe
 use Rattle.book.proofs.Numbers.{number-end, number-decides}
 use Rattle.monitor.specs.Represents.{nameAt, Sized, RuleIs, Rules, rules-none, rules-more, Represents}
 use Rattle.monitor.proofs.KeptCommit.{step-same}
-use Rattle.monitor.proofs.Lists.{split}
 use Rattle.monitor.proofs.WorkLaws.{ends-same}
 use Rattle.judge.specs.Judge as judge
 use Rattle.judge.specs.Judge.{heardEvent, turned, hear, recordsOf, onHeard, judgeRecords, ruleAt, isWhole, judgeOf}
 use Rattle.judge.specs.Hearing.{HeardAs, tableOf, RecordHeard}
 use Rattle.judge.specs.Judging.{said, ListJudged, Judged}
+use Rattle.judge.proofs.RuleNumbers.{not-newest, is-newest, none-at}
 use Rattle.judge.specs.declared.hearing.Verdict.{Verdict}
 use Rattle.judge.specs.declared.hearing.Verdict.the-variants.{NoRule, NotWhole}
 use Rattle.judge.specs.declared.hearing.Heard.{Heard}
@@ -112,23 +112,19 @@ Found f l i = (x : Followed) × RuleIs f i x × (ruleAt l i ≡ some (x .rule))
 
 rule-at : (f : Follower) (k : ℕ) (l : List Followed) (i : ℕ) → Rules f k l → i < k → Found f l i
 rule-at f zero [] i rules-none h = absurd (omega arith)
-rule-at f (suc k) (y ∷ l) i (rules-more is rest) h = ⊎-elim (λ m. before (rule-at f k l i rest m) m) last (split i k (omega arith))
+rule-at f (suc k) (y ∷ l) i (rules-more is rest) h = ⊎-elim (λ m. before (rule-at f k l i rest m) m) latest (split i k (omega arith))
   where
-    before : Found f l i → i < k → Found f (y ∷ l) i
-    before d m =
-        (d .0, d .1, ap (λ (b : Bool). cond b (some (y .rule)) (ruleAt l i)) (ap (eqb i) (rules-long f k l rest) ∙ ne-eqb i k (λ e. absurd (omega arith))) ∙ d .2)
+    n : length l ≡ k
+    n = rules-long f k l rest
 
-    last : i ≡ k → Found f (y ∷ l) i
-    last e = (
-      y,
-      subst (λ (j : ℕ). RuleIs f j y) (sym e) is,
-      ap (λ (b : Bool). cond b (some (y .rule)) (ruleAt l i)) (ap (eqb i) (rules-long f k l rest) ∙ eq-eqb i k e),
-    )
+    before : Found f l i → i < k → Found f (y ∷ l) i
+    before d m = (d .0, d .1, not-newest y l i (λ e. absurd (omega (arith, n))) ∙ d .2)
+
+    latest : i ≡ k → Found f (y ∷ l) i
+    latest e = (y, subst (λ (j : ℕ). RuleIs f j y) (sym e) is, is-newest y l i (e ∙ sym n))
 
 no-rule-at : (f : Follower) (k : ℕ) (l : List Followed) (i : ℕ) → Rules f k l → k ≤ i → ruleAt l i ≡ none
-no-rule-at f zero [] i rules-none h = refl
-no-rule-at f (suc k) (y ∷ l) i (rules-more is rest) h =
-    ap (λ (b : Bool). cond b (some (y .rule)) (ruleAt l i)) (ap (eqb i) (rules-long f k l rest) ∙ ne-eqb i k (λ e. absurd (omega arith))) ∙ no-rule-at f k l i rest (omega arith)
+no-rule-at f k l i rules h = none-at l i (subst (λ (j : ℕ). j ≤ i) (sym (rules-long f k l rules)) h)
 
 pub part-uneven : (s : List ℕ) → (length s % 128 ≡ 0 → ⊥) → isWhole s ≡ false
 unfolding isWhole

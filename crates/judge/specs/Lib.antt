@@ -1,3 +1,4 @@
 pub mod Judge
 pub mod Hearing
 pub mod Judging
+pub mod Rows

@@ -1,7 +1,7 @@
 -- Laws of and, or and not, for tests put together.
 -- Assumes nothing.
 use mathlib.Core.Path.{_≡_, refl}
-use mathlib.Core.Bool.{Bool, true, false, _&&_, _||_}
+use mathlib.Core.Bool.{Bool, true, false, not, _&&_, _||_}
 use mathlib.Core.Logic.{_⊎_, inl, inr}
 use Prim.Native.Nat.{ℕ}
 use native.Mathlib.Omega.{arith}
@@ -48,3 +48,15 @@ not-true false f = refl
 
 pub true-not-false : (a : Bool) → a ≡ true → a ≡ false → ⊥
 true-not-false a p q = let z : _≡_ {A = ℕ} 0 1 = cc in omega arith
+
+pub held-from : (a : Bool) → not a ≡ false → a ≡ true
+held-from true e = refl
+held-from false e = absurd (true-not-false true refl e)
+
+pub held-not : (a : Bool) → not a ≡ true → a ≡ false
+held-not true e = absurd (true-not-false false e refl)
+held-not false e = refl
+
+pub not-not : (a : Bool) → a ≡ not (not a)
+not-not true = refl
+not-not false = refl

@@ -1,7 +1,7 @@
 -- An event's answer is the machine's.
 -- Assumes nothing.
 use mathlib.Core.Path.{_≡_, refl, sym, ap, _∙_, subst}
-use mathlib.Core.Bool.{Bool, true, false, not}
+use mathlib.Core.Bool.{true, false, not}
 use mathlib.Core.List.{List, [], _∷_, map}
 use mathlib.Core.Option.{Option, none, some}
 use Prim.Native.Nat.{ℕ, _≤_, _<_}
@@ -9,7 +9,7 @@ use native.Mathlib.Omega.{arith}
 use lib.ListN.{length, take}
 use borrow.Author.Tests.{le-leb}
 use Rattle.lexer.specs.Words.{same}
-use Rattle.lexer.proofs.Bools.{true-not-false}
+use Rattle.lexer.proofs.Bools.{true-not-false, held-from, held-not}
 use Rattle.grammar.specs.AsRead.{Line, role, rule, event}
 use Rattle.grammar.specs.Lines.{Says, readEvent, isSome}
 use Rattle.grammar.proofs.Language.{event-taken}
@@ -70,14 +70,6 @@ module _ (f : Follower) (z : Sized f) (s : List ℕ) (l : EventLine) (read : Eve
 
     is-unknown : l .unknown ≡ not (allHeld same (t .roles) ws)
     is-unknown = told .unknown ∙ lacks-is f z t rep ws words
-
-    held-from : (b : Bool) → not b ≡ false → b ≡ true
-    held-from true e = refl
-    held-from false e = absurd (true-not-false true refl e)
-
-    held-not : (b : Bool) → not b ≡ true → b ≡ false
-    held-not true e = absurd (true-not-false false e refl)
-    held-not false e = refl
 
     -- row 6
     event-unknown : l .unknown ≡ true → Answers t (lineDecided t (some (event ws))) (refusedWith f 6)

@@ -22,12 +22,13 @@ use Rattle.patterns.specs.Roles.{Roles, isHeld}
 use Rattle.patterns.specs.Table.{Ordered, rolesOf}
 use Rattle.patterns.proofs.MeetsLaws.{all-left, all-right}
 use Rattle.patterns.proofs.RenameAgree.{past-agree, pattern-agree, response-agree}
+use Rattle.patterns.proofs.TableNames.{split}
 use Rattle.follow.specs.State.{addRole, maxRoles}
 use Rattle.follow.specs.declared.state.Follower.{Follower}
 use Rattle.book.specs.Names.{Name}
 use Rattle.book.specs.Tracked.{Tracked, Followed}
 use Rattle.monitor.specs.Represents.{nameAt, NameWord, Sized, Naming, RuleIs, Rules, rules-none, rules-more, Represents}
-use Rattle.monitor.proofs.Lists.{all-more, plus-one, split}
+use Rattle.monitor.proofs.Lists.{all-more, plus-one}
 use Rattle.monitor.proofs.Naming.{both-ways, same-refl, held-up}
 
 -- tables that agree on the first n

@@ -8,7 +8,7 @@ use lib.Dec.{eqb}
 use lib.ListN.{length, getD}
 use borrow.Author.Tests.{eq-eqb, eqb-true, le-leb}
 use Rattle.lexer.specs.Words.{same}
-use Rattle.lexer.proofs.Bools.{and-left, and-right}
+use Rattle.lexer.proofs.Bools.{and-left, and-right, not-not}
 use Rattle.lexer.proofs.KindLaws.{same-true}
 use Rattle.names.specs.Name.{packed}
 use Rattle.names.specs.Place.{held}
@@ -33,10 +33,6 @@ roles-long nm ps (suc n) = ap suc (roles-long nm ps n)
 not-both : (a b : Bool) → (not a || not b) ≡ not (a && b)
 not-both true b = refl
 not-both false b = refl
-
-not-not : (a : Bool) → a ≡ not (not a)
-not-not true = refl
-not-not false = refl
 
 module _ (f : Follower) (z : Sized f) (t : Tracked) (rep : Represents f t) where
   abbrev n : Naming f

@@ -20,7 +20,7 @@ use Rattle.patterns.specs.Meets.{Order, orderOf}
 use Rattle.patterns.specs.Judged.{orderIn}
 use Rattle.patterns.specs.Roles.{isBelow}
 use Rattle.patterns.proofs.MeetsLaws.{all-left, all-right}
-use Rattle.patterns.proofs.TableNames.{below-same}
+use Rattle.patterns.proofs.TableNames.{split, below-same}
 use Rattle.positions.specs.Sets.{shares}
 use Rattle.positions.specs.Sums.{endsOf}
 use Rattle.follow.specs.Rules.{Tree, Keeps}
@@ -38,7 +38,6 @@ use Rattle.book.specs.Names as book
 use Rattle.book.specs.Tracked.{Tracked, Followed, endNumber, trackDuty, trackWorked}
 use Rattle.monitor.specs.Represents.{nameAt, ruleNameAt, RuleIs, Rules, rules-none, rules-more, Represents}
 use Rattle.monitor.specs.Outcomes.{AfterWork}
-use Rattle.monitor.proofs.Lists.{split}
 use Rattle.monitor.proofs.KeptCommit.{kept-commit}
 
 below-last : (i k : ℕ) → i < suc k → (i ≡ k → ⊥) → i < k

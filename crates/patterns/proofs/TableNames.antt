@@ -4,7 +4,7 @@ use mathlib.Core.Path.{_≡_, refl, sym, ap, ap₂, _∙_, subst}
 use mathlib.Core.Bool.{Bool, true, false, cond, _||_}
 use mathlib.Core.Logic.{_⊎_, inl, inr, ⊎-elim}
 use mathlib.Core.List.{List, map}
-use Prim.Native.Nat.{ℕ, zero, suc, _≤_, _<_}
+use Prim.Native.Nat.{ℕ, zero, suc, _+_, _≤_, _<_}
 use native.Mathlib.Omega.{arith}
 use lib.Dec.{eqb, ltb}
 use lib.ListN.{getD}
@@ -21,12 +21,13 @@ use Rattle.patterns.proofs.TableLaws.{here, stop, up}
 use Rattle.patterns.proofs.RoleLaws.{below-up}
 use Rattle.patterns.proofs.MeetsLaws.{through, meets-map, meets-agree}
 
-le-split : (i n : ℕ) → i < suc n → (i ≡ n) ⊎ (i < n)
-le-split i n h = go (ltb i n) refl
+-- an id is the last one, or stands before it
+pub split : (i n : ℕ) → i < n + 1 → (i < n) ⊎ (i ≡ n)
+split i n h = go (ltb i n) refl
   where
-    go : (q : Bool) → ltb i n ≡ q → (i ≡ n) ⊎ (i < n)
-    go true e = inr (ltb-true i n e)
-    go false e = let l = ltb-false i n e in inl (omega arith)
+    go : (q : Bool) → ltb i n ≡ q → (i < n) ⊎ (i ≡ n)
+    go true e = inl (ltb-true i n e)
+    go false e = let k = ltb-false i n e in inr (omega arith)
 
 -- a table of `count` roles in order, with distinct names
 module _ {N : Type 0} (eq : N → N → Bool) (nm : ℕ → N) (ps : List ℕ) (count : ℕ) (o : Ordered count ps)
@@ -63,9 +64,9 @@ module _ {N : Type 0} (eq : N → N → Bool) (nm : ℕ → N) (ps : List ℕ) (
   below-upto zero h i j l k = absurd (omega arith)
   below-upto (suc n) h i j l k =
       ⊎-elim
-      (λ e. subst (λ (x : ℕ). isBelow eq (rolesOf nm ps (suc n)) (nm x) (nm j) ≡ belowIn ps x j) (sym e) (last-same n j h k (λ f. parent-same n j h k f (λ x q. below-upto n (omega arith) x j q k))))
       (λ q. earlier-same n i j h q (below-upto n (omega arith) i j q k))
-      (le-split i n l)
+      (λ e. subst (λ (x : ℕ). isBelow eq (rolesOf nm ps (suc n)) (nm x) (nm j) ≡ belowIn ps x j) (sym e) (last-same n j h k (λ f. parent-same n j h k f (λ x q. below-upto n (omega arith) x j q k))))
+      (split i n (omega arith))
 
   pub below-same : (i j : ℕ) → i < count → j < count → isBelow eq (rolesOf nm ps count) (nm i) (nm j) ≡ belowIn ps i j
   below-same i j h k = below-upto count (omega arith) i j h k

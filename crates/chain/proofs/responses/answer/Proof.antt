@@ -10,7 +10,7 @@ use Rattle.chain.proofs.responses.answer.Statement.{statement}
 use Rattle.chain.proofs.responses.answer.Tie as tie
 
 returns : tie.Need-returns
-returns c = answer-long _ _ _ (c .if1 .taken)
+returns c = rw (c .given-by .ensures) (answer-long _ _ _ (c .before .if1 .taken))
 
 array-share-prefix-code : tie.Need-array-share-prefix-code
 array-share-prefix-code c =
@@ -26,4 +26,4 @@ returns-2 : tie.Need-returns-2
 returns-2 c = answer-right _ _ _ _ (c .respond .ensures)
 
 pub answer-spec : {M : Type 1} → statement M
-answer-spec = tie.close (tie.spec returns array-share-prefix-code slice-aggregate-respond (λ c κs. search needs) returns-2)
+answer-spec = tie.close (tie.spec (λ c κs. search needs) returns array-share-prefix-code slice-aggregate-respond (λ c κs. search needs) returns-2)
