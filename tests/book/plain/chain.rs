@@ -77,7 +77,9 @@ fn work_chain(chain: &[&Rule], offered: Act, worked: &mut usize) -> After {
                 Some(made) => act = made,
                 None => return unfit(),
             },
-            Response::Anew(template) => return fill(template, &act).map_or_else(unfit, After::Anew),
+            Response::Anew(template) => {
+                return fill(template, &act).map_or_else(unfit, After::Anew)
+            }
         }
     }
     After::Ended(End::Committed(act))

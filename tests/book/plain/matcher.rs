@@ -25,7 +25,9 @@ fn ends(past: &Past, acts: &[Act], roles: &Roles, starts: &[usize]) -> Points {
             ends(part, acts, roles, &points)
         }),
         Past::Either(sides) => {
-            let reached = sides.iter().flat_map(|side| ends(side, acts, roles, starts));
+            let reached = sides
+                .iter()
+                .flat_map(|side| ends(side, acts, roles, starts));
             set(reached.collect())
         }
         Past::Star(inside) => star_ends(inside, acts, roles, starts),

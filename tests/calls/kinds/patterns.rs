@@ -1,0 +1,50 @@
+//! Pasts of about 31 patterns, which is the most that a rule may have.
+
+use crate::kinds::general;
+use crate::language::Maker;
+use crate::spell::text;
+use crate::stage::Stage;
+
+pub fn patterns(stage: &mut Stage) {
+    for line in ["role a under top", "role b under a", "role c under top"] {
+        stage.line(line);
+    }
+    for size in [31, 32] {
+        many(stage, size, false);
+    }
+    for at in 0..stage.random.between(30, 70) {
+        if at % 8 == 0 {
+            let size = *stage.random.pick(&[29, 30, 31, 31, 31, 32, 32, 33, 40]);
+            let unheld = stage.random.chance(10);
+            many(stage, size, unheld);
+            stage.lead();
+        }
+        if stage.random.chance(10) {
+            general::turn(stage);
+        } else {
+            stage.act();
+        }
+    }
+}
+
+/// A rule of that many patterns; where `unheld`, one that uses a role not held,
+/// which is told before the patterns are counted.
+fn many(stage: &mut Stage, size: usize, unheld: bool) {
+    let mut roles = vec!["a".to_string(), "b".to_string(), "c".to_string()];
+    if unheld {
+        roles.push("none".to_string());
+    }
+    let name = format!("p{}", stage.random.below(40));
+    // Where a line has no room, the next try has shorter patterns.
+    for short in (10..).step_by(10) {
+        let mut maker = Maker::new(&mut stage.random, &roles);
+        maker.short = short;
+        maker.head(&name);
+        maker.past(size);
+        maker.tail();
+        let made = maker.out;
+        if text(&mut stage.random, &made).is_some() {
+            return stage.tell(b'L', &made);
+        }
+    }
+}
