@@ -67,8 +67,8 @@ fn list(random: &mut Random, book: &Book, number: u32) -> Vec<Act> {
     if random.chance(20) {
         list.push(acts::act(random, book.roles()));
     }
-    if random.chance(4) {
-        let count = random.between(255, 257);
+    if random.chance(8) {
+        let count = *random.pick(&[255, 256, 256, 257]);
         list.resize_with(count, || acts::act(random, book.roles()));
     }
     list
@@ -106,7 +106,7 @@ fn question(random: &mut Random, sheet: &[u8], book: &Book) -> Question {
     let number = if random.chance(8) {
         *random.pick(&[held as u32, 31, 32, 255, 256, u32::MAX])
     } else {
-        random.below(held + 1) as u32
+        random.below(held.max(1)) as u32
     };
     let acts = list(random, book, number);
     let mut records: Vec<u8> = acts.iter().flat_map(written).collect();

@@ -36,6 +36,7 @@ const DEMANDED: [&str; 37] = [
     "act changed and committed",
     "act of no roles committed",
     "act of four roles committed",
+    "act of four names of 8 bytes committed",
     "session that doesn't fit, 11",
     "judge yes",
     "judge no",
@@ -45,8 +46,7 @@ const DEMANDED: [&str; 37] = [
     "judge 4",
     "judge 6",
     "judge 11",
-    "judge yes, of 20 records or more",
-    "judge no, of 256 records",
+    "judge yes or no, of 256 records",
 ];
 
 #[derive(Default)]
@@ -123,6 +123,9 @@ impl Tally {
         if offered != committed {
             self.count("act changed and committed");
         }
+        if reply[48] != b' ' {
+            self.count("act of four names of 8 bytes committed");
+        }
         match committed.len() {
             0 => self.count("act of no roles committed"),
             4 => self.count("act of four roles committed"),
@@ -132,10 +135,8 @@ impl Tally {
 
     /// `answer` as the judge gives it: the refusal times 2^32, and 1 for yes.
     pub fn judged(&mut self, answer: u64, records: usize) {
-        match answer {
-            0 if records == 256 => self.count("judge no, of 256 records"),
-            1 if records >= 20 => self.count("judge yes, of 20 records or more"),
-            _ => {}
+        if answer <= 1 && records == 256 {
+            self.count("judge yes or no, of 256 records");
         }
         match answer {
             0 => self.count("judge no"),

@@ -36,9 +36,9 @@ pub fn name(random: &mut Random) -> String {
     }
 }
 
-/// A name of 2 to 8 bytes.
+/// A name of 2 to 8 bytes, often of 8.
 pub fn long_name(random: &mut Random) -> String {
-    let length = random.between(2, 8);
+    let length = *random.pick(&[2, 3, 4, 5, 6, 7, 8, 8, 8, 8]);
     loop {
         let mut word = char::from(*random.pick(LETTERS)).to_string();
         while word.len() < length {

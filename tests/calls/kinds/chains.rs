@@ -19,17 +19,35 @@ fn act(stage: &mut Stage, text: &str) {
     stage.say(crate::spell::record(b'E', text));
 }
 
-/// Hops from h0 to the last role, with so many responses between them that all
-/// in all `due` are due, the last one of them the last act's own.
+/// About 64 responses, and any end.
 pub fn chains(stage: &mut Stage) {
-    let hops = stage.random.between(2, 12);
-    let due = *stage.random.pick(&[62, 63, 64, 64, 64, 65, 65, 66]);
-    for hop in 0..=hops {
-        stage.line(&format!("role h{hop} under top"));
-    }
+    let due = *stage.random.pick(&[62, 63, 64, 64, 65, 65, 66]);
     let end = *stage
         .random
         .pick(&["hold", "pass", "send <#2>", "send <#1 #1>", "anew <top>"]);
+    chain(stage, due, end);
+}
+
+/// The last response that may be worked, with each way to end.
+pub fn committed_64(stage: &mut Stage) {
+    chain(stage, 64, "send <#1 #1>");
+}
+
+pub fn held_64(stage: &mut Stage) {
+    chain(stage, 64, "hold");
+}
+
+pub fn unfit_64(stage: &mut Stage) {
+    chain(stage, 64, "send <#2>");
+}
+
+/// Hops from h0 to the last role, with so many responses between them that all
+/// in all `due` are due, the last one of them `end`.
+fn chain(stage: &mut Stage, due: usize, end: &str) {
+    let hops = stage.random.between(2, 12);
+    for hop in 0..=hops {
+        stage.line(&format!("role h{hop} under top"));
+    }
     rule(stage, &format!("<h{hops}>"), end);
     for hop in 0..hops {
         rule(stage, &format!("<h{hop}>"), &format!("anew <h{}>", hop + 1));

@@ -7,6 +7,9 @@ use crate::spoil::resize;
 use crate::stage::Stage;
 
 pub fn lengths(stage: &mut Stage) {
+    // The longest act just fills its columns of the reply.
+    stage.line("role abcdefg1 under top");
+    stage.say(record(b'E', &["abcdefg1"; 4].join(" ")));
     for _ in 0..4 {
         stage.role();
         stage.rule();

@@ -16,47 +16,23 @@ pub struct Kind {
     fill: fn(&mut Stage),
 }
 
-pub const KINDS: [Kind; 8] = [
-    Kind {
-        name: "general",
-        weight: 40,
-        fill: general::general,
-    },
-    Kind {
-        name: "chains",
-        weight: 15,
-        fill: chains::chains,
-    },
-    Kind {
-        name: "loops",
-        weight: 10,
-        fill: chains::loops,
-    },
-    Kind {
-        name: "patterns",
-        weight: 10,
-        fill: patterns::patterns,
-    },
-    Kind {
-        name: "full",
-        weight: 10,
-        fill: full::full,
-    },
-    Kind {
-        name: "wreck",
-        weight: 10,
-        fill: general::wreck,
-    },
-    Kind {
-        name: "lengths",
-        weight: 2,
-        fill: lengths::lengths,
-    },
-    Kind {
-        name: "long",
-        weight: 3,
-        fill: long::long,
-    },
+/// A kind by its name, its weight and what it does.
+const fn kind(name: &'static str, weight: usize, fill: fn(&mut Stage)) -> Kind {
+    Kind { name, weight, fill }
+}
+
+pub const KINDS: [Kind; 11] = [
+    kind("general", 40, general::general),
+    kind("chains", 10, chains::chains),
+    kind("committed after 64", 2, chains::committed_64),
+    kind("held after 64", 2, chains::held_64),
+    kind("unfit after 64", 2, chains::unfit_64),
+    kind("loops", 10, chains::loops),
+    kind("patterns", 10, patterns::patterns),
+    kind("full", 10, full::full),
+    kind("wreck", 10, general::wreck),
+    kind("lengths", 2, lengths::lengths),
+    kind("long", 3, long::long),
 ];
 
 /// The first sessions take each kind once; later ones take them by weight.
