@@ -1,6 +1,5 @@
 //! Sessions whose counts or sums don't fit: 11, and nothing written.
 
-use crate::host;
 use crate::random::Random;
 use crate::session::{flat, Call, Flat};
 
@@ -37,17 +36,11 @@ pub fn wrong(random: &mut Random, calls: &[Call]) -> Option<String> {
     let mut f = flat(calls);
     spoil(random, &mut f);
     let (replies, numbers) = (f.replies.clone(), f.numbers.clone());
-    let told = host::session(
-        &f.records,
-        &f.lengths,
-        &mut f.replies,
-        &f.sizes,
-        &mut f.numbers,
-    );
+    let (told, replies_after, numbers_after) = f.ask();
     if told != 11 {
         return Some(format!("a session that doesn't fit gives {told}, not 11"));
     }
-    if f.replies != replies || f.numbers != numbers {
+    if replies[..] != replies_after[..] || numbers[..] != numbers_after[..] {
         return Some("a session that doesn't fit gives 11, but something is written".to_string());
     }
     None

@@ -37,6 +37,20 @@ pub fn flat(calls: &[Call]) -> Flat {
     }
 }
 
+impl Flat {
+    /// What the host gives back: its number, the replies and the numbers.
+    /// Each buffer is a block of just its length, so that a step out of one shows under valgrind.
+    pub fn ask(self) -> (u32, Box<[u8]>, Box<[u8]>) {
+        let records = self.records.into_boxed_slice();
+        let lengths = self.lengths.into_boxed_slice();
+        let mut replies = self.replies.into_boxed_slice();
+        let sizes = self.sizes.into_boxed_slice();
+        let mut numbers = self.numbers.into_boxed_slice();
+        let told = host::session(&records, &lengths, &mut replies, &sizes, &mut numbers);
+        (told, replies, numbers)
+    }
+}
+
 /// One step of the book.
 pub fn step(book: &mut Book, call: &Call) -> Answer {
     let mut reply = call.lent.clone();
@@ -51,21 +65,14 @@ pub fn by_book(calls: &[Call]) -> Vec<Answer> {
 
 /// The monitor's answers, or the number by which the whole session is refused.
 pub fn by_host(calls: &[Call]) -> Result<Vec<Answer>, u32> {
-    let mut f = flat(calls);
-    let told = host::session(
-        &f.records,
-        &f.lengths,
-        &mut f.replies,
-        &f.sizes,
-        &mut f.numbers,
-    );
+    let (told, replies, numbers) = flat(calls).ask();
     if told != 0 {
         return Err(told);
     }
     // The parts make up the whole buffer, so no byte of it goes uncompared.
-    let mut rest = &f.replies[..];
+    let mut rest = &replies[..];
     let mut answers = Vec::new();
-    for (call, &number) in calls.iter().zip(&f.numbers) {
+    for (call, &number) in calls.iter().zip(numbers.iter()) {
         let (reply, after) = rest.split_at(call.lent.len());
         answers.push(Answer {
             number,

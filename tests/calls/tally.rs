@@ -8,8 +8,13 @@ use crate::plain::survey::patterns;
 use crate::plain::tree::Line;
 use crate::session::{Answer, Call};
 
+/// How many of the counts go no higher than `most`.
+fn near(counts: &BTreeSet<usize>, most: usize) -> usize {
+    counts.range(..=most).count()
+}
+
 /// Each of these must occur.
-const DEMANDED: [&str; 37] = [
+const DEMANDED: [&str; 41] = [
     "reply D",
     "reply C",
     "reply H",
@@ -28,9 +33,13 @@ const DEMANDED: [&str; 37] = [
     "rule of 32 patterns refused by 7",
     "64 roles held, one more refused by 8",
     "32 rules held, one more refused by 8",
-    "act with 2 responses or more",
+    "line that fills its 126 bytes taken",
+    "C 00",
+    "C 01 to 63",
     "C 64",
+    "H 01 to 63",
     "H 64",
+    "U 01 to 63",
     "U 64",
     "T 64",
     "act changed and committed",
@@ -65,7 +74,7 @@ impl Tally {
 
     pub fn kind(&mut self, name: &str) {
         self.sessions += 1;
-        self.count(&format!("session {name}"));
+        self.count(&format!("kind {name}"));
     }
 
     pub fn misfit(&mut self) {
@@ -98,6 +107,9 @@ impl Tally {
             Some(Line::Rule(rule)) => patterns(&rule.past),
             _ => 0,
         };
+        if number == 0 && call.record[RECORD - 2] != b' ' {
+            self.count("line that fills its 126 bytes taken");
+        }
         match (line, number) {
             (Some(Line::Role { .. }), 8) => self.count("64 roles held, one more refused by 8"),
             (Some(Line::Rule(_)), 8) => self.count("32 rules held, one more refused by 8"),
@@ -108,13 +120,12 @@ impl Tally {
     }
 
     fn act(&mut self, call: &Call, reply: &[u8]) {
-        let worked = &reply[2..4];
-        if worked == b"64" {
-            self.count(&format!("{} 64", char::from(reply[0])));
-        }
-        if worked > &b"01"[..] {
-            self.count("act with 2 responses or more");
-        }
+        let worked = match &reply[2..4] {
+            b"00" => "00",
+            b"64" => "64",
+            _ => "01 to 63",
+        };
+        self.count(&format!("{} {worked}", char::from(reply[0])));
         let offered = grammar::act(&call.record[1..RECORD - 1]);
         let committed = grammar::act(&reply[14..49]);
         let (Some(offered), Some(committed), b'C') = (offered, committed, reply[0]) else {
@@ -151,40 +162,29 @@ impl Tally {
 
     pub fn print(&self) {
         println!("calls: {} calls in {} sessions", self.calls, self.sessions);
-        for (what, times) in self
-            .seen
-            .iter()
-            .filter(|(what, _)| what.starts_with("session "))
-        {
-            println!("{times:9}  {what}");
+        for (what, times) in &self.seen {
+            if let Some(kind) = what.strip_prefix("kind ") {
+                println!("{times:9}  sessions of the kind {kind}");
+            }
         }
         for what in DEMANDED {
             println!("{:9}  {what}", self.times(what));
         }
         println!(
-            "{:9}  record lengths, {} of them from 0 to 300",
-            self.lengths.len(),
-            self.near(&self.lengths, 300)
+            "{:9}  record lengths from 0 to 300",
+            near(&self.lengths, 300)
         );
-        println!(
-            "{:9}  reply sizes, {} of them from 0 to 128",
-            self.sizes.len(),
-            self.near(&self.sizes, 128)
-        );
-    }
-
-    fn near(&self, counts: &BTreeSet<usize>, most: usize) -> usize {
-        counts.range(..=most).count()
+        println!("{:9}  reply sizes from 0 to 128", near(&self.sizes, 128));
     }
 
     /// What should have occurred and didn't.
     pub fn missing(&self) -> Vec<String> {
         let unseen = DEMANDED.iter().filter(|what| self.times(what) == 0);
         let mut missing: Vec<String> = unseen.map(|what| what.to_string()).collect();
-        if self.near(&self.lengths, 300) < 301 {
+        if near(&self.lengths, 300) < 301 {
             missing.push("a record length from 0 to 300".to_string());
         }
-        if self.near(&self.sizes, 128) < 129 {
+        if near(&self.sizes, 128) < 129 {
             missing.push("a reply size from 0 to 128".to_string());
         }
         missing
