@@ -46,6 +46,21 @@ pub fn by_host(question: &Question) -> u64 {
     host::judge(&sheet, question.number, &records)
 }
 
+/// What the two answer, where they differ.
+pub fn difference(question: &Question) -> Option<String> {
+    let (book, host) = (by_book(question), by_host(question));
+    if book == host {
+        return None;
+    }
+    let shown = |answer: u64| format!("refusal {}, answer {}", answer >> 32, answer % REFUSED);
+    Some(format!(
+        "judge, rule {}\n  book {}\n  host {}",
+        question.number,
+        shown(book),
+        shown(host)
+    ))
+}
+
 /// A session's whole records: all of them, or the lines alone.
 fn sheet(random: &mut Random, calls: &[Call]) -> Vec<u8> {
     let acts_too = random.chance(20);

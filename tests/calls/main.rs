@@ -6,6 +6,7 @@
 //! `calls replay FILE`: a failing session again.
 
 mod acts;
+mod file;
 mod host;
 mod judging;
 mod kinds;
@@ -89,17 +90,18 @@ fn session(seed: u64, tally: &mut Tally) -> Result<(), String> {
         ))
     };
     if let Some(why) = session::difference(&stage.calls, &stage.answers) {
-        return failed(why, replay::calls_text(&stage.calls));
+        return failed(why, file::calls_text(&stage.calls));
     }
     for question in judging::questions(&mut stage.random, &stage.calls) {
-        if let Some(why) = replay::judged_apart(&question) {
-            return failed(why, replay::question_text(&question));
+        if let Some(why) = judging::difference(&question) {
+            return failed(why, file::question_text(&question));
         }
         let records = question.records.len() / plain::book::RECORD;
         tally.judged(judging::by_book(&question), records);
     }
-    if let Some(why) = misfit::wrong(&mut stage.random, &stage.calls) {
-        return failed(why, replay::calls_text(&stage.calls));
+    let misfit = misfit::made(&mut stage.random, &stage.calls);
+    if let Some(why) = misfit::wrong(&misfit) {
+        return failed(why, file::misfit_text(&misfit));
     }
     tally.misfit();
     tally.kind(kind.name);

@@ -31,16 +31,20 @@ fn shift(random: &mut Random, counts: &mut Vec<u32>) {
     counts[at] = counts[at].wrapping_add(by);
 }
 
-/// What is wrong with the answer to a session that doesn't fit.
-pub fn wrong(random: &mut Random, calls: &[Call]) -> Option<String> {
+/// A session that doesn't fit.
+pub fn made(random: &mut Random, calls: &[Call]) -> Flat {
     let mut f = flat(calls);
     spoil(random, &mut f);
-    let (replies, numbers) = (f.replies.clone(), f.numbers.clone());
-    let (told, replies_after, numbers_after) = f.ask();
+    f
+}
+
+/// What is wrong with the answer to a session that doesn't fit.
+pub fn wrong(f: &Flat) -> Option<String> {
+    let (told, replies, numbers) = f.clone().ask();
     if told != 11 {
         return Some(format!("a session that doesn't fit gives {told}, not 11"));
     }
-    if replies[..] != replies_after[..] || numbers[..] != numbers_after[..] {
+    if f.replies[..] != replies[..] || f.numbers[..] != numbers[..] {
         return Some("a session that doesn't fit gives 11, but something is written".to_string());
     }
     None

@@ -18,6 +18,7 @@ pub struct Answer {
 }
 
 /// The calls in the form that `host` takes.
+#[derive(Clone)]
 pub struct Flat {
     pub records: Vec<u8>,
     pub lengths: Vec<u32>,

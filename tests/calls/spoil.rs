@@ -27,8 +27,27 @@ fn valid_record(stage: &mut Stage) -> Vec<u8> {
     record(kind, &text)
 }
 
+/// A place that isn't one of 1 to 4, or a name or two more than there is room for.
+fn overdo(random: &mut Random, tokens: &mut Tokens) {
+    let aims = |token: &String| token == ">" || ["1", "2", "3", "4"].contains(&token.as_str());
+    let found: Vec<usize> = (0..tokens.len()).filter(|&at| aims(&tokens[at])).collect();
+    if found.is_empty() {
+        return tokens.extend(vec!["top".to_string(); random.between(1, 4)]);
+    }
+    let at = *random.pick(&found);
+    if tokens[at] == ">" {
+        let more = vec!["top".to_string(); random.between(1, 4)];
+        tokens.splice(at..at, more);
+    } else {
+        tokens[at] = random.pick(&["0", "5", "9", "11", "01", "1a"]).to_string();
+    }
+}
+
 /// One token dropped, doubled, exchanged with another or with a new one.
 fn spoil_tokens(random: &mut Random, tokens: &mut Tokens) {
+    if random.chance(20) {
+        return overdo(random, tokens);
+    }
     let at = random.below(tokens.len() + 1);
     if at == tokens.len() {
         return tokens.push(words::token(random));
