@@ -12,6 +12,7 @@ mod judging;
 mod kinds;
 mod language;
 mod misfit;
+mod near;
 #[path = "../book/plain/mod.rs"]
 mod plain;
 mod random;

@@ -1,5 +1,6 @@
 //! The kinds of session. Each fills a stage; the weights say how often each is taken.
 
+mod bytes;
 mod chains;
 mod full;
 mod general;
@@ -21,7 +22,7 @@ const fn kind(name: &'static str, weight: usize, fill: fn(&mut Stage)) -> Kind {
     Kind { name, weight, fill }
 }
 
-pub const KINDS: [Kind; 11] = [
+pub const KINDS: [Kind; 12] = [
     kind("general", 40, general::general),
     kind("chains", 10, chains::chains),
     kind("committed after 64", 2, chains::committed_64),
@@ -32,6 +33,7 @@ pub const KINDS: [Kind; 11] = [
     kind("full", 10, full::full),
     kind("wreck", 10, general::wreck),
     kind("lengths", 2, lengths::lengths),
+    kind("bytes", 1, bytes::bytes),
     kind("long", 3, long::long),
 ];
 
