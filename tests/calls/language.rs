@@ -148,7 +148,12 @@ impl<'a> Maker<'a> {
         self.put(")");
     }
 
+    /// A bracketed condition among them counts as one pattern.
     fn short_pattern(&mut self) {
+        if self.random.chance(3) {
+            let condition = *self.random.pick(&["[<>or<>]", "[not<>]", "[(any)]"]);
+            return self.put(condition);
+        }
         self.put("<");
         if !self.random.chance(self.short) {
             self.role();

@@ -25,26 +25,32 @@ pub fn chains(stage: &mut Stage) {
     let end = *stage
         .random
         .pick(&["hold", "pass", "send <#2>", "send <#1 #1>", "anew <top>"]);
-    chain(stage, due, end);
+    // One hop alone takes all the rules that are held.
+    let hops = stage.random.between(1, 12);
+    chain(stage, hops, due, end);
 }
 
 /// The last response that may be worked, with each way to end.
 pub fn committed_64(stage: &mut Stage) {
-    chain(stage, 64, "send <#1 #1>");
+    chain_64(stage, "send <#1 #1>");
 }
 
 pub fn held_64(stage: &mut Stage) {
-    chain(stage, 64, "hold");
+    chain_64(stage, "hold");
 }
 
 pub fn unfit_64(stage: &mut Stage) {
-    chain(stage, 64, "send <#2>");
+    chain_64(stage, "send <#2>");
+}
+
+fn chain_64(stage: &mut Stage, end: &str) {
+    let hops = stage.random.between(2, 12);
+    chain(stage, hops, 64, end);
 }
 
 /// Hops from h0 to the last role, with so many responses between them that all
 /// in all `due` are due, the last one of them `end`.
-fn chain(stage: &mut Stage, due: usize, end: &str) {
-    let hops = stage.random.between(2, 12);
+fn chain(stage: &mut Stage, hops: usize, due: usize, end: &str) {
     for hop in 0..=hops {
         stage.line(&format!("role h{hop} under top"));
     }
