@@ -97,10 +97,10 @@ fn spoil(random: &mut Random, records: &mut Vec<u8>) {
     for _ in 0..random.between(1, 2) {
         let count = records.len() / RECORD;
         let at = RECORD * random.below(count + 1);
-        let mut wrong = match random.below(4) {
+        let mut wrong = match random.below(5) {
             0 => record(b'E', "uv;"),
-            1 => record(b'E', "notheld"),
-            2 => record(b'L', "role zz under top"),
+            1 | 2 => record(b'E', "notheld"),
+            3 => record(b'L', "role zz under top"),
             _ => record(b'E', "top top top top top"),
         };
         if random.chance(30) {
@@ -128,7 +128,7 @@ fn question(random: &mut Random, sheet: &[u8], book: &Book) -> Question {
     };
     let acts = list(random, book, number);
     let mut records: Vec<u8> = acts.iter().flat_map(written).collect();
-    if random.chance(15) {
+    if random.chance(25) {
         spoil(random, &mut records);
     }
     Question {
@@ -142,5 +142,5 @@ fn question(random: &mut Random, sheet: &[u8], book: &Book) -> Question {
 pub fn questions(random: &mut Random, calls: &[Call]) -> Vec<Question> {
     let sheet = sheet(random, calls);
     let book = read(&sheet);
-    (0..4).map(|_| question(random, &sheet, &book)).collect()
+    (0..5).map(|_| question(random, &sheet, &book)).collect()
 }
