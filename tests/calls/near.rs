@@ -39,7 +39,7 @@ fn overdo(random: &mut Random, tokens: &mut Tokens) {
 
 /// One token dropped, doubled, exchanged with another or with a new one.
 fn spoil_tokens(random: &mut Random, tokens: &mut Tokens) {
-    if random.chance(20) {
+    if random.chance(35) {
         return overdo(random, tokens);
     }
     let at = random.below(tokens.len() + 1);
