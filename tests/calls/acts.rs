@@ -7,8 +7,8 @@ use crate::plain::roles::Roles;
 use crate::plain::tree::{Act, Condition, Item, Name, Past, Simple};
 use crate::random::Random;
 
-/// Lists made from a past have no more acts than this.
-const MOST: usize = 24;
+/// Lists made from a past end soon after so many acts: enough for 31 patterns in a row.
+const MOST: usize = 36;
 
 /// The roles held are always more than none: top is one of them.
 fn role(random: &mut Random, roles: &Roles) -> Name {

@@ -29,7 +29,7 @@ use std::path::Path;
 use kinds::KINDS;
 use tally::Tally;
 
-const COUNT: usize = 200_000;
+const COUNT: usize = 500_000;
 const SEED: u64 = 1;
 
 fn main() {

@@ -1,8 +1,8 @@
 //! Pasts of about 31 patterns, which is the most that a rule may have.
 
-use crate::kinds::general;
 use crate::language::Maker;
 use crate::spell::text;
+use crate::spoil;
 use crate::stage::Stage;
 
 pub fn patterns(stage: &mut Stage) {
@@ -12,15 +12,20 @@ pub fn patterns(stage: &mut Stage) {
     for size in [31, 32] {
         many(stage, size, false);
     }
-    for at in 0..stage.random.between(30, 70) {
-        if at % 8 == 0 {
-            let size = *stage.random.pick(&[29, 30, 31, 31, 31, 32, 32, 33, 40]);
-            let unheld = stage.random.chance(10);
-            many(stage, size, unheld);
-            stage.lead();
-        }
-        if stage.random.chance(10) {
-            general::turn(stage);
+    for _ in 0..stage.random.between(2, 4) {
+        let size = *stage.random.pick(&[29, 30, 31, 31, 31, 32, 33, 40]);
+        let unheld = stage.random.chance(10);
+        many(stage, size, unheld);
+        stage.lead();
+        follow(stage);
+    }
+}
+
+/// Acts enough to come to the end of a long past.
+fn follow(stage: &mut Stage) {
+    for _ in 0..stage.random.between(10, 45) {
+        if stage.random.chance(5) {
+            spoil::noise(stage);
         } else {
             stage.act();
         }
