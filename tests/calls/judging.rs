@@ -73,7 +73,17 @@ fn written(act: &Act) -> Vec<u8> {
     record(b'E', &String::from_utf8_lossy(&act.join(&b' ')))
 }
 
-/// Acts that the rule's past matches, or nearly so, or any acts; sometimes as many as the judge takes.
+/// About as many acts as the judge takes: the list again and again, which a
+/// star may match, or any acts after it.
+fn drawn_out(random: &mut Random, book: &Book, list: &mut Vec<Act>) {
+    let count = *random.pick(&[255, 256, 256, 257]);
+    if !list.is_empty() && random.chance(60) {
+        *list = list.iter().cycle().take(count).cloned().collect();
+    }
+    list.resize_with(count, || acts::act(random, book.roles()));
+}
+
+/// Acts that the rule's past matches, or nearly so; sometimes very many.
 fn list(random: &mut Random, book: &Book, number: u32) -> Vec<Act> {
     let mut list = Vec::new();
     if let Some(rule) = book.rules().get(number as usize) {
@@ -86,8 +96,7 @@ fn list(random: &mut Random, book: &Book, number: u32) -> Vec<Act> {
         list.push(acts::act(random, book.roles()));
     }
     if random.chance(8) {
-        let count = *random.pick(&[255, 256, 256, 257]);
-        list.resize_with(count, || acts::act(random, book.roles()));
+        drawn_out(random, book, &mut list);
     }
     list
 }

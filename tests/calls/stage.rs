@@ -22,6 +22,12 @@ pub struct Stage {
     plan: Vec<Act>,
 }
 
+/// The role names of an act as tokens.
+fn named(act: &Act) -> Tokens {
+    let names = act.iter().map(|n| String::from_utf8_lossy(n).into_owned());
+    names.collect()
+}
+
 impl Stage {
     pub fn new(random: Random) -> Stage {
         Stage {
@@ -94,9 +100,7 @@ impl Stage {
     }
 
     pub fn act_tokens(&mut self) -> Tokens {
-        let act = self.next_act();
-        let names = act.iter().map(|n| String::from_utf8_lossy(n).into_owned());
-        names.collect()
+        named(&self.next_act())
     }
 
     pub fn role(&mut self) {
@@ -112,6 +116,13 @@ impl Stage {
     pub fn act(&mut self) {
         let made = self.act_tokens();
         self.tell(b'E', &made);
+    }
+
+    /// Offers what is planned, and nothing else.
+    pub fn follow_plan(&mut self) {
+        while let Some(act) = self.plan.pop() {
+            self.tell(b'E', &named(&act));
+        }
     }
 
     /// Plans acts that may lead one of the rules to work: the last declared,

@@ -14,7 +14,7 @@ fn near(counts: &BTreeSet<usize>, most: usize) -> usize {
 }
 
 /// Each of these must occur.
-const DEMANDED: [&str; 41] = [
+const DEMANDED: [&str; 42] = [
     "reply D",
     "reply C",
     "reply H",
@@ -30,6 +30,7 @@ const DEMANDED: [&str; 41] = [
     "refusal 7",
     "refusal 8",
     "rule of 31 patterns taken",
+    "rule of 31 patterns in a row holds",
     "rule of 32 patterns refused by 7",
     "64 roles held, one more refused by 8",
     "32 rules held, one more refused by 8",
@@ -126,6 +127,9 @@ impl Tally {
             _ => "01 to 63",
         };
         self.count(&format!("{} {worked}", char::from(reply[0])));
+        if reply.starts_with(b"H 01 row31 ") {
+            self.count("rule of 31 patterns in a row holds");
+        }
         let offered = grammar::act(&call.record[1..RECORD - 1]);
         let committed = grammar::act(&reply[14..49]);
         let (Some(offered), Some(committed), b'C') = (offered, committed, reply[0]) else {

@@ -5,14 +5,14 @@ use crate::spell::tokens;
 use crate::stage::Stage;
 use crate::words;
 
+/// All the roles first, or all the rules.
 pub fn full(stage: &mut Stage) {
-    if stage.random.chance(70) {
+    if stage.random.chance(60) {
         full_roles(stage);
+        full_rules(stage);
     } else {
         (0..6).for_each(|_| stage.role());
-    }
-    full_rules(stage);
-    if stage.roles.len() < 64 && stage.random.chance(50) {
+        full_rules(stage);
         full_roles(stage);
     }
     for _ in 0..stage.random.between(20, 60) {
@@ -37,9 +37,8 @@ fn full_roles(stage: &mut Stage) {
             stage.act();
         }
     }
-    for _ in 0..3 {
-        stage.role();
-    }
+    stage.line("role one-more under top");
+    stage.role();
 }
 
 /// Some rules see acts that those declared later don't.
@@ -50,9 +49,8 @@ fn full_rules(stage: &mut Stage) {
             stage.act();
         }
     }
-    for _ in 0..3 {
-        stage.rule();
-    }
+    stage.line("rule one-more: any; any; pass");
+    stage.rule();
     // The order of rows 5, 6, 7 and 8 where more than one would do.
     let many = "<>".repeat(32);
     stage.line(&format!("rule zzz: {many};any;hold"));

@@ -22,7 +22,7 @@ const fn kind(name: &'static str, weight: usize, fill: fn(&mut Stage)) -> Kind {
     Kind { name, weight, fill }
 }
 
-pub const KINDS: [Kind; 12] = [
+pub const KINDS: [Kind; 13] = [
     kind("general", 40, general::general),
     kind("chains", 10, chains::chains),
     kind("committed after 64", 2, chains::committed_64),
@@ -30,6 +30,7 @@ pub const KINDS: [Kind; 12] = [
     kind("unfit after 64", 2, chains::unfit_64),
     kind("loops", 10, chains::loops),
     kind("patterns", 10, patterns::patterns),
+    kind("row", 4, patterns::row),
     kind("full", 10, full::full),
     kind("wreck", 10, general::wreck),
     kind("lengths", 2, lengths::lengths),

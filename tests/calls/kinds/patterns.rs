@@ -5,10 +5,31 @@ use crate::spell::text;
 use crate::spoil;
 use crate::stage::Stage;
 
-pub fn patterns(stage: &mut Stage) {
+fn roles(stage: &mut Stage) {
     for line in ["role a under top", "role b under a", "role c under top"] {
         stage.line(line);
     }
+}
+
+/// 31 patterns in a row, few of them starred, and acts from the first to the last.
+pub fn row(stage: &mut Stage) {
+    roles(stage);
+    let mut past = String::new();
+    let mut stars = *stage.random.pick(&[0, 0, 4, 10]);
+    for _ in 0..31 {
+        past += *stage.random.pick(&["<a>", "<b>", "<c>", "<>"]);
+        if stars > 0 && stage.random.chance(25) {
+            past += "*";
+            stars -= 1;
+        }
+    }
+    stage.line(&format!("rule row31:{past};any;hold"));
+    stage.lead();
+    stage.follow_plan();
+}
+
+pub fn patterns(stage: &mut Stage) {
+    roles(stage);
     for size in [31, 32] {
         many(stage, size, false);
     }
