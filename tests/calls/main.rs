@@ -85,7 +85,7 @@ fn session(seed: u64, tally: &mut Tally) -> Result<(), String> {
     let (kind, mut stage) = kinds::made(seed, number);
     let failed = |why: String, text: String| {
         Err(kept(
-            &format!("seed {seed} session {number} ({})", kind.name),
+            &format!("seed {seed} session {number} ({})", kind),
             &why,
             &text,
         ))
@@ -105,7 +105,7 @@ fn session(seed: u64, tally: &mut Tally) -> Result<(), String> {
         return failed(why, file::misfit_text(&misfit));
     }
     tally.misfit();
-    tally.kind(kind.name);
+    tally.kind(kind);
     for (call, answer) in stage.calls.iter().zip(&stage.answers) {
         tally.call(call, answer);
     }

@@ -24,10 +24,10 @@ fn spoil(random: &mut Random, f: &mut Flat) {
 /// One of the counts higher or lower by one, or high above.
 fn shift(random: &mut Random, counts: &mut Vec<u32>) {
     let by = *random.pick(&[1, 1 << 31, u32::MAX]);
-    let Some(at) = counts.len().checked_sub(1) else {
+    if counts.is_empty() {
         return counts.push(by);
-    };
-    let at = random.between(0, at);
+    }
+    let at = random.below(counts.len());
     counts[at] = counts[at].wrapping_add(by);
 }
 

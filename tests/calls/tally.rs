@@ -130,20 +130,23 @@ impl Tally {
         if reply.starts_with(b"H 01 row31 ") {
             self.count("rule of 31 patterns in a row holds");
         }
+        if reply[0] == b'C' {
+            self.committed(call, reply);
+        }
+    }
+
+    fn committed(&mut self, call: &Call, reply: &[u8]) {
         let offered = grammar::act(&call.record[1..RECORD - 1]);
         let committed = grammar::act(&reply[14..49]);
-        let (Some(offered), Some(committed), b'C') = (offered, committed, reply[0]) else {
-            return;
-        };
         if offered != committed {
             self.count("act changed and committed");
         }
         if reply[48] != b' ' {
             self.count("act of four names of 8 bytes committed");
         }
-        match committed.len() {
-            0 => self.count("act of no roles committed"),
-            4 => self.count("act of four roles committed"),
+        match committed.map(|act| act.len()) {
+            Some(0) => self.count("act of no roles committed"),
+            Some(4) => self.count("act of four roles committed"),
             _ => {}
         }
     }

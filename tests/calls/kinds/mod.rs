@@ -11,31 +11,23 @@ mod patterns;
 use crate::random::Random;
 use crate::stage::Stage;
 
-pub struct Kind {
-    pub name: &'static str,
-    weight: usize,
-    fill: fn(&mut Stage),
-}
-
-/// A kind by its name, its weight and what it does.
-const fn kind(name: &'static str, weight: usize, fill: fn(&mut Stage)) -> Kind {
-    Kind { name, weight, fill }
-}
+/// A kind of session: its name, its weight, and what fills the stage.
+type Kind = (&'static str, usize, fn(&mut Stage));
 
 pub const KINDS: [Kind; 13] = [
-    kind("general", 40, general::general),
-    kind("chains", 10, chains::chains),
-    kind("committed after 64", 2, chains::committed_64),
-    kind("held after 64", 2, chains::held_64),
-    kind("unfit after 64", 2, chains::unfit_64),
-    kind("loops", 10, chains::loops),
-    kind("patterns", 10, patterns::patterns),
-    kind("row", 4, patterns::row),
-    kind("full", 10, full::full),
-    kind("wreck", 10, general::wreck),
-    kind("lengths", 2, lengths::lengths),
-    kind("bytes", 1, bytes::bytes),
-    kind("long", 3, long::long),
+    ("general", 40, general::general),
+    ("chains", 10, chains::chains),
+    ("committed after 64", 2, chains::committed_64),
+    ("held after 64", 2, chains::held_64),
+    ("unfit after 64", 2, chains::unfit_64),
+    ("loops", 10, chains::loops),
+    ("patterns", 10, patterns::patterns),
+    ("row", 4, patterns::row),
+    ("full", 10, full::full),
+    ("wreck", 10, general::wreck),
+    ("lengths", 2, lengths::lengths),
+    ("bytes", 1, bytes::bytes),
+    ("long", 3, long::long),
 ];
 
 /// The first sessions take each kind once; later ones take them by weight.
@@ -43,20 +35,20 @@ fn choose(random: &mut Random, session: usize) -> &'static Kind {
     if session < KINDS.len() {
         return &KINDS[session];
     }
-    let mut left = random.below(KINDS.iter().map(|kind| kind.weight).sum());
+    let mut left = random.below(KINDS.iter().map(|(_, weight, _)| weight).sum());
     let mut at = 0;
-    while left >= KINDS[at].weight {
-        left -= KINDS[at].weight;
+    while left >= KINDS[at].1 {
+        left -= KINDS[at].1;
         at += 1;
     }
     &KINDS[at]
 }
 
-/// The session of that number of a run with that seed.
-pub fn made(seed: u64, session: usize) -> (&'static Kind, Stage) {
+/// The session of that number of a run with that seed, and its kind's name.
+pub fn made(seed: u64, session: usize) -> (&'static str, Stage) {
     let mut random = Random::of(seed, session as u64);
-    let kind = choose(&mut random, session);
+    let (name, _, fill) = choose(&mut random, session);
     let mut stage = Stage::new(random);
-    (kind.fill)(&mut stage);
-    (kind, stage)
+    fill(&mut stage);
+    (name, stage)
 }
