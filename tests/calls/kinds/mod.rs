@@ -14,7 +14,7 @@ use crate::stage::Stage;
 /// A kind of session: its name, its weight, and what fills the stage.
 type Kind = (&'static str, usize, fn(&mut Stage));
 
-pub const KINDS: [Kind; 13] = [
+pub static KINDS: [Kind; 13] = [
     ("general", 40, general::general),
     ("chains", 10, chains::chains),
     ("committed after 64", 2, chains::committed_64),
