@@ -1,6 +1,6 @@
 #!/usr/bin/env bash
-# All tests: a plain book written from document 01 alone against the stored sessions, and random pasts against a plain matcher; then every crate proved from nothing, every must-fail edit refused,
-# every program run and compared with its stored output.
+# All tests: a plain book written from document 01 alone against the stored sessions and, by random sessions, against the monitor; random pasts against a plain matcher; then every crate
+# proved from nothing, every must-fail edit refused, every program run and compared with its stored output.
 set -eu
 cd "$(dirname "$0")"
 rt fmt --check
@@ -16,6 +16,13 @@ rustc --edition 2021 -O -o "$out/book" tests/book/main.rs
 rt staticlib probe
 rustc --edition 2021 -O -L target/staticlib -o "$out/pasts" tests/pasts/main.rs
 "$out/pasts"
+rt staticlib host
+rustc --edition 2021 -O -L target/staticlib -o "$out/calls" tests/calls/main.rs
+"$out/calls"
+
+# The same with fewer calls, every access to memory watched.
+command -v valgrind > /dev/null || { apt-get update && apt-get install -y valgrind; }
+valgrind --error-exitcode=1 -q "$out/calls" 6000
 rm -rf "$out"
 
 exec rt ci

@@ -6,20 +6,12 @@
 
 #![forbid(unsafe_code)]
 
-mod book;
-mod chain;
-mod grammar;
-mod matcher;
-mod meets;
-mod reply;
-mod roles;
-mod survey;
-mod text;
-mod tree;
+mod plain;
 
 use std::path::Path;
 
-use book::Book;
+use plain::book::{Book, RECORD};
+use plain::reply;
 
 fn main() {
     let told = match std::env::args_os().nth(1) {
@@ -66,7 +58,7 @@ fn compare(name: &str, records: &[u8], stored: &[u8]) -> Result<usize, String> {
     let mut book = Book::fresh();
     let mut left = stored;
     let mut count = 0;
-    for record in records.chunks(book::RECORD) {
+    for record in records.chunks(RECORD) {
         count += 1;
         // Lent full of a byte no reply has, so that a column left unfilled shows.
         let mut given = [0xAA_u8; reply::LENGTH];

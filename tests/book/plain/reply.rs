@@ -1,7 +1,7 @@
 //! The reply: 50 bytes, filled the same way for every kind.
 
-use crate::chain::End;
-use crate::tree::Act;
+use super::chain::End;
+use super::tree::Act;
 
 /// The length of a reply.
 pub const LENGTH: usize = 50;

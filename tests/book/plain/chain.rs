@@ -1,9 +1,9 @@
 //! Working an act: the chain of rules, and how the work ends.
 
-use crate::matcher::matches;
-use crate::meets::meets;
-use crate::roles::Roles;
-use crate::tree::{Act, Name, Response, RuleLine, Slot, Template};
+use super::matcher::matches;
+use super::meets::meets;
+use super::roles::Roles;
+use super::tree::{Act, Name, Response, RuleLine, Slot, Template};
 
 /// The most responses worked for one act.
 pub const MOST_WORKED: usize = 64;
@@ -77,7 +77,9 @@ fn work_chain(chain: &[&Rule], offered: Act, worked: &mut usize) -> After {
                 Some(made) => act = made,
                 None => return unfit(),
             },
-            Response::Anew(template) => return fill(template, &act).map_or_else(unfit, After::Anew),
+            Response::Anew(template) => {
+                return fill(template, &act).map_or_else(unfit, After::Anew)
+            }
         }
     }
     After::Ended(End::Committed(act))

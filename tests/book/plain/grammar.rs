@@ -3,8 +3,8 @@
 //! language. The next token always tells which form stands there, so no
 //! reader ever goes back.
 
-use crate::text::{is_name, tokens, Token};
-use crate::tree::{
+use super::text::{is_name, tokens, Token};
+use super::tree::{
     Act, Condition, Item, Line, Name, Past, Response, RuleLine, Simple, Slot, Template,
 };
 

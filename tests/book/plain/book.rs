@@ -1,13 +1,13 @@
 //! The plain book: the roles with their parents, the rules in declared order,
 //! each with its start, and the full list of committed acts as role names.
 
-use crate::chain::{work, End, Rule, Stand};
-use crate::grammar;
-use crate::reply;
-use crate::roles::Roles;
-use crate::survey::{patterns, roles_used};
-use crate::text::class;
-use crate::tree::{Act, Line, Name, RuleLine};
+use super::chain::{work, End, Rule, Stand};
+use super::grammar;
+use super::reply;
+use super::roles::Roles;
+use super::survey::{patterns, roles_used};
+use super::text::class;
+use super::tree::{Act, Line, Name, RuleLine};
 
 /// The length of a record.
 pub const RECORD: usize = 128;
@@ -28,6 +28,16 @@ enum Asked {
     Act(Act),
 }
 
+/// Row 3: the text of a record of 128 bytes, where byte 0 is one of the kinds.
+pub fn framed<'a>(record: &'a [u8], kinds: &[u8]) -> Result<&'a [u8], u8> {
+    let text = &record[1..RECORD - 1];
+    let ends_well = record[RECORD - 1] == b'\n';
+    if !kinds.contains(&record[0]) || !ends_well || text.iter().any(|&byte| class(byte) == 0) {
+        return Err(3);
+    }
+    Ok(text)
+}
+
 impl Book {
     pub fn fresh() -> Book {
         Book {
@@ -35,6 +45,15 @@ impl Book {
             rules: Vec::new(),
             list: Vec::new(),
         }
+    }
+
+    pub fn roles(&self) -> &Roles {
+        &self.roles
+    }
+
+    /// In declared order.
+    pub fn rules(&self) -> &[Rule] {
+        &self.rules
     }
 
     /// One call. The record may be any bytes and the reply buffer of any
@@ -83,16 +102,9 @@ impl Book {
         if record.len() != RECORD {
             return Err(2);
         }
-        let text = &record[1..RECORD - 1];
-        let kind_known = record[0] == b'L' || record[0] == b'E';
-        let ends_well = record[RECORD - 1] == b'\n';
-        if !kind_known || !ends_well || text.iter().any(|&byte| class(byte) == 0) {
-            return Err(3);
-        }
+        let text = framed(record, b"LE")?;
         if record[0] == b'E' {
-            let act = grammar::act(text).ok_or(4)?;
-            self.need_roles(act.iter())?;
-            return Ok(Asked::Act(act));
+            return self.read_act(text).map(Asked::Act);
         }
         let line = grammar::line(text).ok_or(4)?;
         match &line {
@@ -100,6 +112,13 @@ impl Book {
             Line::Rule(rule) => self.check_rule(rule)?,
         }
         Ok(Asked::Line(line))
+    }
+
+    /// Rows 4 and 6 for the text of an act.
+    pub fn read_act(&self, text: &[u8]) -> Result<Act, u8> {
+        let act = grammar::act(text).ok_or(4)?;
+        self.need_roles(act.iter())?;
+        Ok(act)
     }
 
     fn check_role(&self, name: &Name, parent: &Name) -> Result<(), u8> {

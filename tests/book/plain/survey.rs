@@ -1,7 +1,7 @@
 //! What the refusals need to know of a line: the roles it uses, and how many
 //! patterns its past has.
 
-use crate::tree::{Condition, Name, Past, Response, RuleLine, Slot};
+use super::tree::{Condition, Name, Past, Response, RuleLine, Slot};
 
 /// A bracketed condition counts as one pattern, whatever stands inside it.
 pub fn patterns(past: &Past) -> usize {

@@ -1,7 +1,7 @@
 //! When an act meets a pattern.
 
-use crate::roles::Roles;
-use crate::tree::{Act, Condition, Item, Name, Simple};
+use super::roles::Roles;
+use super::tree::{Act, Condition, Item, Name, Simple};
 
 /// Judged by the nesting of the condition.
 pub fn meets(act: &Act, condition: &Condition, roles: &Roles) -> bool {

@@ -1,0 +1,51 @@
+//! Sessions whose counts or sums don't fit: 11, and nothing written.
+
+use crate::random::Random;
+use crate::session::{flat, Call, Flat};
+
+/// One thing that doesn't fit. Sums that fit again after a turn of 32 bits don't fit either.
+fn spoil(random: &mut Random, f: &mut Flat) {
+    match random.below(8) {
+        0 => f.lengths.push(0),
+        1 => f.sizes.push(0),
+        2 => f.numbers.push(200),
+        3 => f.records.push(b'E'),
+        4 => f.replies.push(7),
+        5 => shift(random, &mut f.lengths),
+        6 => shift(random, &mut f.sizes),
+        _ => {
+            f.lengths.extend([u32::MAX, 1]);
+            f.sizes.extend([1, u32::MAX]);
+            f.numbers.extend([201, 202]);
+        }
+    }
+}
+
+/// One of the counts higher or lower by one, or high above.
+fn shift(random: &mut Random, counts: &mut Vec<u32>) {
+    let by = *random.pick(&[1, 1 << 31, u32::MAX]);
+    if counts.is_empty() {
+        return counts.push(by);
+    }
+    let at = random.below(counts.len());
+    counts[at] = counts[at].wrapping_add(by);
+}
+
+/// A session that doesn't fit.
+pub fn made(random: &mut Random, calls: &[Call]) -> Flat {
+    let mut f = flat(calls);
+    spoil(random, &mut f);
+    f
+}
+
+/// What is wrong with the answer to a session that doesn't fit.
+pub fn wrong(f: &Flat) -> Option<String> {
+    let (told, replies, numbers) = f.clone().ask();
+    if told != 11 {
+        return Some(format!("a session that doesn't fit gives {told}, not 11"));
+    }
+    if f.replies[..] != replies[..] || f.numbers[..] != numbers[..] {
+        return Some("a session that doesn't fit gives 11, but something is written".to_string());
+    }
+    None
+}
