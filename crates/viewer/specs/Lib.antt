@@ -1,0 +1,4 @@
+pub mod Film
+pub mod Stands
+pub mod Answers
+pub mod Views
