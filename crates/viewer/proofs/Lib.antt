@@ -10,3 +10,4 @@ pub mod LineLaws
 pub mod RecordLaws
 pub mod MatchLaws
 pub mod FilmRight
+pub mod Examples

@@ -2,3 +2,4 @@ pub mod Film
 pub mod Stands
 pub mod Answers
 pub mod Views
+pub mod Examples
