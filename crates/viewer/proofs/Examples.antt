@@ -1,4 +1,4 @@
--- The definitions give the rows of specs/Examples.antt, computed.
+-- The definitions give the lines of specs/Examples.antt, computed.
 -- Assumes nothing.
 use mathlib.Core.Path.{refl}
 use Rattle.lexer.specs.Class.{classOf, wordy, spacey, marky}
@@ -11,7 +11,7 @@ use Rattle.grammar.specs.Lines.{readLine, readEvent}
 use Rattle.grammar.specs.Names.{itemsNames, simpleNames, conditionNames, patternNames, pastNames, slotsNames, responseNames, ruleNames}
 use Rattle.grammar.specs.Rename.{mapItem, mapItems, mapSimple, mapPattern, mapPast}
 use Rattle.grammar.specs.Size.{sizePast}
-use Rattle.names.specs.Name.{columnOf, packed}
+use Rattle.names.specs.Name.{columnOf, packed, columnAt}
 use Rattle.names.specs.Place.{differs, place}
 use Rattle.frame.specs.Text.{textOf, allClassed}
 use Rattle.frame.specs.Record.{kindBy, frameOf}
@@ -21,8 +21,9 @@ use Rattle.patterns.specs.Table.{upTo, belowIn}
 use Rattle.patterns.specs.Meets.{itemsMeet, termMeets, meets}
 use Rattle.follow.specs.Meaning.{pastMeaning}
 use Rattle.viewer.specs.Film.{decideLine, decideText}
-use Rattle.viewer.specs.Examples.{Computed, starts, refusals}
+use Rattle.viewer.specs.Lines.{ink, lineWith, matchedIn}
+use Rattle.viewer.specs.Examples.{Said, starts, refusals}
 
-pub examples-right : Computed starts × Computed refusals
-unfolding classOf wordy spacey marky run kindOf same nameLike digitKind tokensFrom markIs wordIs placeIs wholly itemOf openOf itemsOf simpleOf conditionWith termWith conditionOf patternOf starsOf afterStars begins pastWith sequenceWith factorWith baseWith pastOf slotOf slotsOf templateOf responseOf roleOf headOf tailOf ruleOf namesOf eventOf readLine readEvent itemsNames simpleNames conditionNames patternNames pastNames slotsNames responseNames ruleNames mapItem mapItems mapSimple mapPattern mapPast sizePast columnOf packed differs place textOf allClassed kindBy frameOf idOf lacks upTo belowIn itemsMeet termMeets meets pastMeaning decideLine decideText
+pub examples-right : Said starts × Said refusals
+unfolding classOf wordy spacey marky run kindOf same nameLike digitKind tokensFrom markIs wordIs placeIs wholly itemOf openOf itemsOf simpleOf conditionWith termWith conditionOf patternOf starsOf afterStars begins pastWith sequenceWith factorWith baseWith pastOf slotOf slotsOf templateOf responseOf roleOf headOf tailOf ruleOf namesOf eventOf readLine readEvent itemsNames simpleNames conditionNames patternNames pastNames slotsNames responseNames ruleNames mapItem mapItems mapSimple mapPattern mapPast sizePast columnOf packed columnAt differs place textOf allClassed kindBy frameOf idOf lacks upTo belowIn itemsMeet termMeets meets pastMeaning decideLine decideText ink lineWith matchedIn
 examples-right = (refl, refl)

@@ -9,5 +9,7 @@ pub mod EventLaws
 pub mod LineLaws
 pub mod RecordLaws
 pub mod MatchLaws
+pub mod WriteLaws
 pub mod FilmRight
+pub mod LinesRight
 pub mod Examples

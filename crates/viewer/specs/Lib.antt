@@ -2,4 +2,6 @@ pub mod Film
 pub mod Stands
 pub mod Answers
 pub mod Views
+pub mod Lines
+pub mod Showing
 pub mod Examples

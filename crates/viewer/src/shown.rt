@@ -1,18 +1,23 @@
 // The line written for a record.
 use crate::view::Viewed;
-use follow::Follower;
 use follow::Rule;
 use libc::STDOUT_FILENO;
 use positions::sets::has;
+ghost use mathlib.Core.Bool.{cond};
+ghost use mathlib.Core.List.{[], _∷_};
+ghost use Rattle.names.specs.Unpacked.{columnsOf};
+ghost use Rattle.viewer.specs.Lines.{ink, listed, orDash, Adds, Starts, Written};
 
-// A line under way: room for 32 names of eight bytes after the columns.
+// A line under way: room for 32 names of eight bytes after the columns. The first len bytes count.
 pub struct Shown {
     pub len: usize,
     pub bytes: [u8; 320],
 }
 
 // One byte more, where there is room.
-fn put(s: Shown, b: u8) -> Shown {
+fn put(s: Shown, b: u8) -> Shown
+    ensures { λ r. ⌜ Adds s (b ∷ []) r ⌝ }
+{
     let at = s.len;
     if 320 <= at {
         return s;
@@ -23,8 +28,20 @@ fn put(s: Shown, b: u8) -> Shown {
     r
 }
 
+// A byte, unless it is a space.
+fn inked(s: Shown, b: u8) -> Shown
+    ensures { λ r. ⌜ Adds s (ink (b ∷ [])) r ⌝ }
+{
+    if b == b' ' {
+        return s;
+    }
+    put(s, b)
+}
+
 // A packed name's eight columns.
-fn columns(s: Shown, name: u64) -> Shown {
+fn columns(s: Shown, name: u64) -> Shown
+    ensures { λ r. ⌜ Adds s (columnsOf name) r ⌝ }
+{
     let mut r = s;
     let mut i: usize = 0;
     while i < 8 {
@@ -34,54 +51,78 @@ fn columns(s: Shown, name: u64) -> Shown {
     r
 }
 
-// A space, and a packed name without the spaces that pad it.
-fn spaced(s: Shown, name: u64) -> Shown {
-    let mut r = put(s, b' ');
+// A packed name without the spaces that pad it.
+fn bare(s: Shown, name: u64) -> Shown
+    ensures { λ r. ⌜ Adds s (ink (columnsOf name)) r ⌝ }
+{
+    let mut r = s;
     let mut i: usize = 0;
     while i < 8 {
-        let b = names::column(name, i);
-        if b != b' ' {
-            r = put(r, b);
-        }
+        r = inked(r, names::column(name, i));
         i += 1;
     }
     r
 }
 
-// Columns 0 to 14: the letter, the number, the name, and the bar.
-fn opening(v: Viewed) -> Shown {
-    let none = Shown {
-        len: 0,
-        bytes: [b' '; 320],
-    };
-    let number = v.number;
-    let a = put(put(none, v.letter), b' ');
-    let b = put(put(a, number / 10 % 10 + 48), number % 10 + 48);
-    let c = columns(put(b, b' '), v.name);
-    put(put(c, b' '), b'|')
+// A space and a rule's name, where it is asked for.
+fn named(s: Shown, asked: bool, name: u64) -> Shown
+    ensures { λ r. ⌜ Adds s (cond asked (32 ∷ ink (columnsOf name)) []) r ⌝ }
+{
+    if asked {
+        return bare(put(s, b' '), name);
+    }
+    s
 }
 
-// The names of the rules in a set, in declared order.
-fn those_in(s: Shown, rules: [Rule; 32], set: u64) -> Shown {
+// The names of the rules in a set, in declared order, a space before each.
+fn those_in(s: Shown, rules: [Rule; 32], set: u64) -> Shown
+    ensures { λ r. ⌜ Adds s (listed rules set 32) r ⌝ }
+{
     let mut r = s;
     let mut i: usize = 0;
     while i < 32 {
         let rule = rules[i];
-        if has(set, i) {
-            r = spaced(r, rule.name);
-        }
+        r = named(r, has(set, i), rule.name);
         i += 1;
     }
     r
 }
 
-// The names of the rules whose pasts match now, or a dash.
-fn matched(s: Shown, f: Follower, set: u64) -> Shown {
-    if set == 0 {
-        return put(put(s, b' '), b'-');
+// The same, or a dash where the set is empty.
+fn matched(s: Shown, rules: [Rule; 32], set: u64) -> Shown
+    ensures { λ r. ⌜ Adds s (orDash (listed rules set 32)) r ⌝ }
+{
+    let r = those_in(s, rules, set);
+    if r.len == s.len {
+        return put(put(r, b' '), b'-');
     }
+    r
+}
+
+// Columns 0 to 4: the letter and the number.
+fn opening(letter: u8, number: u8) -> Shown
+    ensures { λ r. ⌜ Starts letter number r ⌝ }
+{
+    let mut bytes = [b' '; 320];
+    bytes[0] = letter;
+    bytes[2] = number / 10 + 48;
+    bytes[3] = number % 10 + 48;
+    Shown {
+        len: 5,
+        bytes: bytes,
+    }
+}
+
+// The line of a record.
+pub fn line(v: Viewed) -> Shown
+    ensures { λ r. ⌜ Written v r ⌝ }
+{
+    let f = v.follower;
     let all = f.rules;
-    those_in(s, all, set)
+    let front = columns(opening(v.letter, v.number), v.name);
+    let bar = put(put(front, b' '), b'|');
+    let full = matched(bar, all, v.matching);
+    put(full, b'\n')
 }
 
 // Writes a line, and says whether it could be written.
@@ -96,8 +137,5 @@ fn written(s: Shown) -> bool {
 
 // Writes the line of a record, and says whether it could be written.
 pub fn show(v: Viewed) -> bool {
-    let front = opening(v);
-    let f = v.follower;
-    let full = matched(front, f, v.matching);
-    written(put(full, b'\n'))
+    written(line(v))
 }
