@@ -1,12 +1,14 @@
 -- What becomes of a record, by its frame; and what the step shows of it.
 -- Assumes nothing.
 use mathlib.Core.Path.{_≡_, refl, ap, subst}
-use mathlib.Core.List.{List, [], _∷_}
-use Prim.Native.Nat.{ℕ, zero, suc, _≤_}
+use mathlib.Core.List.{List}
+use Prim.Native.Nat.{ℕ, _≤_}
 use native.Mathlib.Omega.{arith}
-use lib.ListN.{length, take, drop}
+use lib.ListN.{length}
 use Rattle.frame.specs.Text.{textOf}
-use Rattle.frame.specs.Record.{frameOf}
+use Rattle.frame.specs.Record.{frameOf, lineByte, eventByte}
+use Rattle.frame.specs.Framed.{Framed}
+use Rattle.frame.proofs.FrameLaws.{frame-exactly, framed-length}
 use Rattle.frame.specs.declared.records.Frame.the-variants.{Line, Event, WrongLength, Malformed}
 use Rattle.follow.specs.declared.state.Follower.{Follower}
 use Rattle.viewer.specs.Film.{Film, decideText, decide, next}
@@ -16,23 +18,17 @@ use Rattle.viewer.specs.Views.{Matching, Views}
 use Rattle.viewer.specs.declared.answers.Answer.{Answer}
 use Rattle.viewer.proofs.AnswerLaws.{refused-answers, unchanged-refused}
 
-take-small : (n : ℕ) (l : List ℕ) → length (take n l) ≤ n
-take-small zero l = omega arith
-take-small (suc n) [] = omega arith
-take-small (suc n) (a ∷ l) = let h = take-small n l in omega arith
-
-text-small : (s : List ℕ) → length (textOf s) ≤ 126
-unfolding textOf
-text-small s = take-small 126 (drop 1 s)
+text-small : (b : ℕ) (s : List ℕ) → Framed b s → length (textOf s) ≤ 126
+text-small b s h = let e = framed-length b s h in omega arith
 
 module _ (f : Follower) (s : List ℕ) (r : Answer) where
   pub record-line : frameOf s ≡ Line → LineTaken f (textOf s) r → RecordTaken f s r
   unfolding decideText
-  record-line e h = record { unchanged = h .unchanged; right = λ m st. rw e (h .right m st (text-small s)) }
+  record-line e h = record { unchanged = h .unchanged; right = λ m st. rw e (h .right m st (text-small lineByte s (frame-exactly s Line .0 e))) }
 
   pub record-act : frameOf s ≡ Event → ActTaken f (textOf s) r → RecordTaken f s r
   unfolding decideText
-  record-act e h = record { unchanged = h .unchanged; right = λ m st. rw e (h .right m st (text-small s)) }
+  record-act e h = record { unchanged = h .unchanged; right = λ m st. rw e (h .right m st (text-small eventByte s (frame-exactly s Event .0 e))) }
 
   -- row 2
   pub record-short : frameOf s ≡ WrongLength → r ≡ refusedWith f 2 → RecordTaken f s r

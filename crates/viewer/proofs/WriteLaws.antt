@@ -1,22 +1,24 @@
 -- Laws of a line under way: what is added to it, byte by byte and name by name.
 -- Assumes nothing.
 use mathlib.Core.Path.{_≡_, refl, sym, ap, _∙_}
-use mathlib.Core.Bool.{Bool, true, false, cond}
+use mathlib.Core.Bool.{Bool, true, false, not, cond}
 use mathlib.Core.List.{List, [], _∷_, _++_, append-assoc, append-nil}
 use Prim.Native.Nat.{ℕ, zero, suc, _+_, _*_, _<_, _≤_, zero-le}
 use native.Mathlib.Numerals.{add-one}
 use native.Mathlib.Omega.{arith}
-use lib.Dec.{eqb}
-use lib.ListN.{length, take, set, getD, length-append}
-use lib.Seq.{take-suc, take-suc-set}
+use lib.ListN.{length, take, drop, set, getD, length-append}
+use lib.Seq.{take-suc, drop-cons, take-suc-set}
 use borrow.Author.Tests.{eq-eqb, ne-eqb}
 use Rattle.names.specs.Name.{columnAt}
-use Rattle.names.specs.Unpacked.{columnsOf}
+use Rattle.lexer.specs.Run.{run}
+use Rattle.lexer.proofs.RunLaws.{run-stop, run-end}
+use Rattle.names.specs.Unpacked.{inked, columnsOf, unpacked}
+use Rattle.names.proofs.UnpackedLaws.{unpacked-length}
 use Rattle.positions.specs.Sets.{hasAt}
 use Rattle.follow.specs.State.{noRule}
 use Rattle.follow.specs.declared.rules.Rule.{Rule}
 use Rattle.follow.proofs.CommitLaws.{getD-any}
-use Rattle.viewer.specs.Lines.{ink, namedIf, orDash, openingOf, lineWith, listed, textOf, Adds, Starts, Written}
+use Rattle.viewer.specs.Lines.{namedIf, orDash, openingOf, lineWith, listed, textOf, Adds, Starts, Written}
 use Rattle.viewer.specs.declared.shown.Shown.{Shown}
 use Rattle.viewer.specs.declared.view.Viewed.{Viewed}
 
@@ -45,32 +47,9 @@ adds-put s b l h = record { right = λ k. (refl, rw add-one (take-suc-set (s .by
 pub adds-full : (s r : Shown) (b : ℕ) → 320 ≤ s .len → Adds s (b ∷ []) r
 adds-full s r b h = record { right = λ k. absurd (omega arith) }
 
--- a byte, unless it is a space
-pub adds-space : (s : Shown) (b : ℕ) → b ≡ 32 → Adds s (ink (b ∷ [])) s
-unfolding ink
-adds-space s b e = rw (eq-eqb b 32 e) (adds-none s)
-
-pub adds-ink : (s r : Shown) (b : ℕ) → (b ≡ 32 → ⊥) → Adds s (b ∷ []) r → Adds s (ink (b ∷ [])) r
-unfolding ink
-adds-ink s r b e a = rw (ne-eqb b 32 e) a
-
-ink-append : (k l : List ℕ) → ink (k ++ l) ≡ ink k ++ ink l
-unfolding ink
-ink-append [] l = refl
-ink-append (b ∷ k) l = go (eqb b 32) (ink-append k l)
-  where
-    go : (q : Bool) → ink (k ++ l) ≡ ink k ++ ink l → cond q (ink (k ++ l)) (b ∷ ink (k ++ l)) ≡ cond q (ink k) (b ∷ ink k) ++ ink l
-    go true h = h
-    go false h = ap (λ (u : List ℕ). b ∷ u) h
-
-ink-length : (l : List ℕ) → length (ink l) ≤ length l
-unfolding ink
-ink-length [] = zero-le
-ink-length (b ∷ l) = go (eqb b 32) (ink-length l)
-  where
-    go : (q : Bool) → length (ink l) ≤ length l → length (cond q (ink l) (b ∷ ink l)) ≤ suc (length l)
-    go true h = omega arith
-    go false h = omega arith
+no-length : (l : List ℕ) → length l ≡ 0 → l ≡ []
+no-length [] e = refl
+no-length (x ∷ l) e = absurd (omega arith)
 
 column-among : (n i : ℕ) → i < 8 → getD (columnsOf n) i 0 ≡ columnAt n i
 column-among n zero h = refl
@@ -90,8 +69,26 @@ one-more n i b h e = rw add-one (take-suc (columnsOf n) i 0 h ∙ ap (λ (x : �
 pub adds-column : (n i b : ℕ) (s r t : Shown) → i < 8 → b ≡ columnAt n i → Adds s (take i (columnsOf n)) r → Adds r (b ∷ []) t → Adds s (take (i + 1) (columnsOf n)) t
 adds-column n i b s r t h e a c = adds-same s t _ _ (sym (one-more n i b h e)) (adds-then s r t _ _ a c)
 
-pub adds-bare : (n i b : ℕ) (s r t : Shown) → i < 8 → b ≡ columnAt n i → Adds s (ink (take i (columnsOf n))) r → Adds r (ink (b ∷ [])) t → Adds s (ink (take (i + 1) (columnsOf n))) t
-adds-bare n i b s r t h e a c = adds-same s t _ _ (sym (ink-append (take i (columnsOf n)) (b ∷ [])) ∙ ap ink (sym (one-more n i b h e))) (adds-then s r t _ _ a c)
+-- a name from column i on: a space, or the last column, ends it
+module _ (n i : ℕ) (s : Shown) where
+  bare-stop : length (run inked (drop i (columnsOf n))) ≡ 0 → Adds s (run inked (drop i (columnsOf n))) s
+  bare-stop e = adds-same s s [] _ (sym (no-length (run inked (drop i (columnsOf n))) e)) (adds-none s)
+
+  pub bare-end : 8 ≤ i → Adds s (run inked (drop i (columnsOf n))) s
+  bare-end h = bare-stop (run-end inked (columnsOf n) i h)
+
+  module _ (b : ℕ) (h : i < 8) (e : b ≡ columnAt n i) where
+    pub bare-space : b ≡ 32 → Adds s (run inked (drop i (columnsOf n))) s
+    unfolding inked
+    bare-space q = bare-stop (run-stop inked (columnsOf n) i h (ap not (eq-eqb (getD (columnsOf n) i 0) 32 (column-among n i h ∙ sym e ∙ q))))
+
+    pub bare-more : (r t : Shown) → (b ≡ 32 → ⊥) → Adds s (b ∷ []) r → Adds r (run inked (drop (i + 1) (columnsOf n))) t → Adds s (run inked (drop i (columnsOf n))) t
+    unfolding run inked
+    bare-more r t q a c =
+        let cols = columnsOf n in
+        let d : run inked (drop i cols) ≡ b ∷ run inked (drop (i + 1) cols) =
+        rw add-one (ap (run inked) (drop-cons cols i 0 h ∙ ap (λ (x : ℕ). x ∷ drop (suc i) cols) (column-among n i h ∙ sym e)) ∙ ap (λ (p : Bool). cond (not p) (b ∷ run inked (drop (suc i) cols)) []) (ne-eqb b 32 q)) in
+        adds-same s t _ _ (sym d) (adds-then s r t _ _ a c)
 
 -- one rule more
 pub adds-rule : (rs : List Rule) (set i : ℕ) (d : Rule) (b : Bool) (s r t : Shown) → i < length rs → b ≡ hasAt set i → Adds s (listed rs set i) r → Adds r (namedIf b (getD rs i d .name)) t
@@ -104,10 +101,6 @@ adds-rule rs set i d b s r t h e a c =
     (adds-then s r t _ _ a c))
 
 -- a dash where nothing is listed
-no-length : (l : List ℕ) → length l ≡ 0 → l ≡ []
-no-length [] e = refl
-no-length (x ∷ l) e = absurd (omega arith)
-
 or-dash : (l : List ℕ) → (length l ≡ 0 → ⊥) → l ≡ orDash l
 or-dash [] h = absurd (h refl)
 or-dash (b ∷ l) h = refl
@@ -121,7 +114,7 @@ listed-length rs set (suc n) =
     omega (arith, length-append (listed rs set n) (namedIf (hasAt set n) (getD rs n noRule .name)))
   where
     go : (b : Bool) → length (namedIf b (getD rs n noRule .name)) ≤ 9
-    go true = let k = ink-length (columnsOf (getD rs n noRule .name)) in omega arith
+    go true = let k = unpacked-length (getD rs n noRule .name) in omega arith
     go false = omega arith
 
 dash-length : (l : List ℕ) → length (orDash l) ≤ 2 + length l
@@ -151,8 +144,9 @@ module _ (s r : Shown) (w : List ℕ) (a : Adds s w r) where
       }
 
 -- a space and a name, or nothing
-pub adds-named : (s r t : Shown) (b : Bool) (name : ℕ) → b ≡ true → Adds s (32 ∷ []) r → Adds r (ink (columnsOf name)) t → Adds s (namedIf b name) t
-adds-named s r t b name e a c = rw e (adds-then s r t (32 ∷ []) (ink (columnsOf name)) a c)
+pub adds-named : (s r t : Shown) (b : Bool) (name : ℕ) → b ≡ true → Adds s (32 ∷ []) r → Adds r (run inked (drop 0 (columnsOf name))) t → Adds s (namedIf b name) t
+unfolding unpacked
+adds-named s r t b name e a c = rw e (adds-then s r t (32 ∷ []) (unpacked name) a c)
 
 pub adds-unnamed : (s : Shown) (b : Bool) (name : ℕ) → b ≡ false → Adds s (namedIf b name) s
 adds-unnamed s b name e = rw e (adds-none s)

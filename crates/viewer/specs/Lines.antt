@@ -4,9 +4,8 @@ use mathlib.Core.Path.{_≡_}
 use mathlib.Core.Bool.{Bool, cond}
 use mathlib.Core.List.{List, [], _∷_, _++_}
 use Prim.Native.Nat.{ℕ, zero, suc, _+_, _/_, _%_, _≤_}
-use lib.Dec.{eqb}
 use lib.ListN.{length, take, getD}
-use Rattle.names.specs.Unpacked.{columnsOf}
+use Rattle.names.specs.Unpacked.{columnsOf, unpacked}
 use Rattle.patterns.specs.Meets.{meets}
 use Rattle.patterns.specs.Judged.{orderIn}
 use Rattle.positions.specs.Sets.{hasAt}
@@ -19,14 +18,9 @@ use Rattle.viewer.specs.Answers.{letterOf, numberOf, nameOf}
 use Rattle.viewer.specs.declared.shown.Shown.{Shown}
 use Rattle.viewer.specs.declared.view.Viewed.{Viewed}
 
--- the bytes that are not spaces
-unfoldable pub ink : List ℕ → List ℕ
-ink [] = []
-ink (b ∷ l) = cond (eqb b 32) (ink l) (b ∷ ink l)
-
--- a space and the packed name, where asked for
+-- a space and the bytes of a packed name, where asked for
 abbrev pub namedIf : Bool → ℕ → List ℕ
-namedIf b name = cond b (32 ∷ ink (columnsOf name)) []
+namedIf b name = cond b (32 ∷ unpacked name) []
 
 -- ` -` where there is nothing
 abbrev pub orDash : List ℕ → List ℕ

@@ -3,10 +3,11 @@ use crate::view::Viewed;
 use follow::Rule;
 use libc::STDOUT_FILENO;
 use positions::sets::has;
-ghost use mathlib.Core.Bool.{cond};
 ghost use mathlib.Core.List.{[], _∷_};
-ghost use Rattle.names.specs.Unpacked.{columnsOf};
-ghost use Rattle.viewer.specs.Lines.{ink, listed, orDash, Adds, Starts, Written};
+ghost use lib.ListN.{drop};
+ghost use Rattle.lexer.specs.Run.{run};
+ghost use Rattle.names.specs.Unpacked.{inked, columnsOf};
+ghost use Rattle.viewer.specs.Lines.{namedIf, listed, orDash, Adds, Starts, Written};
 
 // A line under way: room for 32 names of eight bytes after the columns. The first len bytes count.
 pub struct Shown {
@@ -28,16 +29,6 @@ fn put(s: Shown, b: u8) -> Shown
     r
 }
 
-// A byte, unless it is a space.
-fn inked(s: Shown, b: u8) -> Shown
-    ensures { λ r. ⌜ Adds s (ink (b ∷ [])) r ⌝ }
-{
-    if b == b' ' {
-        return s;
-    }
-    put(s, b)
-}
-
 // A packed name's eight columns.
 fn columns(s: Shown, name: u64) -> Shown
     ensures { λ r. ⌜ Adds s (columnsOf name) r ⌝ }
@@ -51,25 +42,26 @@ fn columns(s: Shown, name: u64) -> Shown
     r
 }
 
-// A packed name without the spaces that pad it.
-fn bare(s: Shown, name: u64) -> Shown
-    ensures { λ r. ⌜ Adds s (ink (columnsOf name)) r ⌝ }
+// A packed name from column i on, without the spaces that pad it. What falls is the columns left.
+fn bare(s: Shown, name: u64, i: usize) -> Shown
+    ensures { λ r. ⌜ Adds s (run inked (drop i (columnsOf name))) r ⌝ }
 {
-    let mut r = s;
-    let mut i: usize = 0;
-    while i < 8 {
-        r = inked(r, names::column(name, i));
-        i += 1;
+    if 8 <= i {
+        return s;
     }
-    r
+    let b = names::column(name, i);
+    if b == b' ' {
+        return s;
+    }
+    bare(put(s, b), name, i + 1)
 }
 
 // A space and a rule's name, where it is asked for.
 fn named(s: Shown, asked: bool, name: u64) -> Shown
-    ensures { λ r. ⌜ Adds s (cond asked (32 ∷ ink (columnsOf name)) []) r ⌝ }
+    ensures { λ r. ⌜ Adds s (namedIf asked name) r ⌝ }
 {
     if asked {
-        return bare(put(s, b' '), name);
+        return bare(put(s, b' '), name, 0);
     }
     s
 }
