@@ -1,11 +1,10 @@
 -- What becomes of an act is what the film says: every rule declared before it sees it.
 -- Assumes nothing.
 use mathlib.Core.Path.{_≡_, refl, sym, ap, _∙_, subst}
-use mathlib.Core.Bool.{Bool, true, false}
+use mathlib.Core.Bool.{true, false}
 use mathlib.Core.List.{List, map}
 use mathlib.Core.Option.{Option, none, some}
 use Prim.Native.Nat.{ℕ, _≤_, _<_}
-use native.Mathlib.Omega.{arith}
 use lib.ListN.{length, take}
 use borrow.Author.Tests.{le-leb}
 use Rattle.lexer.proofs.Bools.{true-not-false}
@@ -19,7 +18,7 @@ use Rattle.patterns.specs.All.{All}
 use Rattle.follow.specs.State.{capped, maxRoles, eventOf, Committed}
 use Rattle.follow.specs.declared.state.Event.{Event}
 use Rattle.follow.specs.declared.state.Follower.{Follower}
-use Rattle.viewer.specs.Film.{Film, Decision, committed, withEvent, decideLine}
+use Rattle.viewer.specs.Film.{Film, decideLine}
 use Rattle.viewer.specs.Stands.{Sized, Stands}
 use Rattle.viewer.specs.Answers.{refusedWith, Answers, Unchanged, EventTaken, EventTextTaken, ActTaken}
 use Rattle.viewer.specs.declared.answers.Answer.{Answer}

@@ -1,7 +1,7 @@
 -- The whole film: whatever records are viewed from a fresh follower on, at each record what is shown is what the film says, and for each rule exactly
 -- whether Appendix A matches the events since its declaration.
 -- Assumes nothing.
-use mathlib.Core.Path.{_≡_, refl, sym, ap, _∙_, subst}
+use mathlib.Core.Path.{_≡_, sym, ap, subst}
 use mathlib.Core.List.{List, [], _∷_}
 use Prim.Native.Nat.{ℕ, _≤_}
 use native.Mathlib.Omega.{arith}

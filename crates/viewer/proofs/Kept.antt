@@ -6,7 +6,6 @@ use Prim.Native.Nat.{ℕ, zero, suc, _+_, _<_, _≤_}
 use native.Mathlib.Omega.{arith}
 use lib.ListN.{length, take, set, getD}
 use lib.Seq.{take-suc-set, getD-set-same, getD-set-other}
-use Rattle.grammar.specs.Trees.{Past}
 use Rattle.grammar.specs.Size.{sizePast}
 use Rattle.patterns.specs.All.{All}
 use Rattle.follow.specs.Rules.{Tree, Keeps}
@@ -15,7 +14,7 @@ use Rattle.follow.specs.declared.rules.Rule.{Rule}
 use Rattle.follow.specs.declared.state.Follower.{Follower}
 use Rattle.follow.proofs.Following.{rule-joins, rule-keeps, event-follows, role-keeps}
 use Rattle.viewer.specs.Film.{Watched, Film, withRole, withRule, withEvent, seeing}
-use Rattle.viewer.specs.Stands.{Sized, RuleIs, Rules, rules-none, rules-more, Stands}
+use Rattle.viewer.specs.Stands.{Sized, Rules, rules-none, rules-more, Stands}
 
 plus-one : (n : ℕ) → n + 1 ≡ suc n
 plus-one n = omega arith

@@ -2,26 +2,24 @@
 -- Assumes nothing.
 use mathlib.Core.Path.{_≡_, refl, sym, ap, _∙_}
 use mathlib.Core.Bool.{Bool, true, false}
-use mathlib.Core.List.{List, [], _∷_, _++_, append-nil}
+use mathlib.Core.List.{List, [], _∷_, append-nil}
 use mathlib.Core.Logic.{_↔_}
 use Prim.Native.Nat.{ℕ, zero, suc, _+_, _-_, _≤_}
 use native.Mathlib.Omega.{arith}
-use lib.ListN.{length, getD}
+use lib.ListN.{length}
 use borrow.Author.Tests.{le-leb, le-ltb}
 use Rattle.patterns.specs.Meets.{meets}
 use Rattle.patterns.specs.Judged.{orderIn}
-use Rattle.positions.specs.Past.{Sat}
 use Rattle.positions.specs.Sets.{hasAt}
 use Rattle.positions.specs.Matcher.{matches}
 use Rattle.positions.proofs.Matching.{matches-iff}
 use Rattle.follow.specs.Meaning.{pastMeaning}
-use Rattle.follow.specs.State.{capped, maxRules, noRule, matchesAt}
+use Rattle.follow.specs.State.{capped, maxRules, matchesAt}
 use Rattle.follow.specs.declared.state.Follower.{Follower}
-use Rattle.viewer.specs.Film.{Watched, Film, Decision, freshFilm, decide, next, Tells}
+use Rattle.viewer.specs.Film.{Watched, Film, freshFilm, decide, next, Tells}
 use Rattle.viewer.specs.Stands.{Rules, rules-none, rules-more, Stands}
-use Rattle.viewer.specs.Answers.{letterOf, numberOf, nameOf}
 use Rattle.viewer.specs.Views.{Begun, Views}
-use Rattle.viewer.specs.Lines.{namedIf, orDash, lineWith, listed, matchedIn, lineOf, textOf, Written}
+use Rattle.viewer.specs.Lines.{listed, matchedIn, lineOf, textOf, Written}
 use Rattle.viewer.specs.Showing.{Showing, showing-none, showing-more, linesOf}
 use Rattle.viewer.specs.declared.shown.Shown.{Shown}
 use Rattle.viewer.specs.declared.view.Viewed.{Viewed}

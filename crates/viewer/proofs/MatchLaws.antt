@@ -2,13 +2,13 @@
 -- Assumes nothing.
 use mathlib.Core.Path.{_≡_, refl, sym, ap, ap₂, _∙_}
 use mathlib.Core.Bool.{Bool, true, false, cond, _&&_, _||_}
-use Prim.Native.Nat.{ℕ, suc, _+_, _<_, _≤_}
+use Prim.Native.Nat.{ℕ, _+_, _<_, _≤_}
 use native.Mathlib.Omega.{arith}
 use lib.Dec.{eqb, leb, ltb}
 use lib.Arith.{lt-of-le-ne}
 use lib.Bits.{bitOr}
 use borrow.Author.Tests.{ltb-true, ltb-false, lt-ltb, le-ltb, eqb-true, eqb-false, ne-eqb, leb-true}
-use Rattle.positions.specs.Sets.{hasAt, bitOf, onlyIf, shares}
+use Rattle.positions.specs.Sets.{hasAt, bitOf, onlyIf}
 use Rattle.positions.proofs.SetLaws.{has-none, has-or, has-only-if, has-bit}
 use Rattle.follow.specs.State.{capped, maxRules, matchesAt}
 use Rattle.follow.specs.declared.state.Follower.{Follower}

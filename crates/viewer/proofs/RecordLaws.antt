@@ -1,6 +1,6 @@
 -- What becomes of a record, by its frame; and what the step shows of it.
 -- Assumes nothing.
-use mathlib.Core.Path.{_≡_, refl, ap, subst}
+use mathlib.Core.Path.{_≡_, ap}
 use mathlib.Core.List.{List}
 use Prim.Native.Nat.{ℕ, _≤_}
 use native.Mathlib.Omega.{arith}
@@ -11,8 +11,7 @@ use Rattle.frame.specs.Framed.{Framed}
 use Rattle.frame.proofs.FrameLaws.{frame-exactly, framed-length}
 use Rattle.frame.specs.declared.records.Frame.the-variants.{Line, Event, WrongLength, Malformed}
 use Rattle.follow.specs.declared.state.Follower.{Follower}
-use Rattle.viewer.specs.Film.{Film, decideText, decide, next}
-use Rattle.viewer.specs.Stands.{Stands}
+use Rattle.viewer.specs.Film.{decideText, decide, next}
 use Rattle.viewer.specs.Answers.{refusedWith, Unchanged, LineTaken, ActTaken, RecordTaken}
 use Rattle.viewer.specs.Views.{Matching, Views}
 use Rattle.viewer.specs.declared.answers.Answer.{Answer}

@@ -3,10 +3,10 @@
 use mathlib.Core.Path.{_≡_, refl, sym, ap, ap₂, _∙_}
 use mathlib.Core.Bool.{Bool, true, false, not, _||_}
 use mathlib.Core.List.{List, [], _∷_, map}
-use Prim.Native.Nat.{ℕ, zero, suc, _<_, _≤_}
+use Prim.Native.Nat.{ℕ, zero, suc, _<_}
 use native.Mathlib.Omega.{arith}
-use lib.Dec.{eqb, ltb}
-use lib.ListN.{length, take, getD}
+use lib.Dec.{eqb}
+use lib.ListN.{length, take}
 use lib.Seq.{length-take-le}
 use borrow.Author.Tests.{le-leb, ltb-true}
 use Rattle.lexer.proofs.Bools.{true-not-false}
@@ -17,7 +17,7 @@ use Rattle.code.specs.Encoded.{Few}
 use Rattle.code.specs.Lines.{lacks}
 use Rattle.patterns.specs.All.{All}
 use Rattle.follow.specs.State as follow
-use Rattle.follow.specs.State.{capped, maxRoles, maxRules, noRule, roleNamed, ruleNamed}
+use Rattle.follow.specs.State.{capped, maxRoles, maxRules, roleNamed, ruleNamed}
 use Rattle.follow.specs.declared.state.Follower.{Follower}
 use Rattle.viewer.specs.Film.{Watched, Film, isRule, isTaken}
 use Rattle.viewer.specs.Stands.{Sized, Rules, rules-none, rules-more, Stands}

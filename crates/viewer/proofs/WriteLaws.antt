@@ -18,7 +18,7 @@ use Rattle.positions.specs.Sets.{hasAt}
 use Rattle.follow.specs.State.{noRule}
 use Rattle.follow.specs.declared.rules.Rule.{Rule}
 use Rattle.follow.proofs.CommitLaws.{getD-any}
-use Rattle.viewer.specs.Lines.{namedIf, orDash, openingOf, lineWith, listed, textOf, Adds, Starts, Written}
+use Rattle.viewer.specs.Lines.{namedIf, orDash, lineWith, listed, textOf, Adds, Starts, Written}
 use Rattle.viewer.specs.declared.shown.Shown.{Shown}
 use Rattle.viewer.specs.declared.view.Viewed.{Viewed}
 

@@ -1,7 +1,6 @@
 -- `joined` meets its contract.
 -- Assumes nothing.
 use mathlib.Core.Path.{ap, _∙_}
-use Prim.Native.Nat.{ℕ}
 use lib.Bits.{bitOr}
 use borrow.Author.Needs.{needs}
 use Rattle.positions.specs.Sets.{onlyIf}

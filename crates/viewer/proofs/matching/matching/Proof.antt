@@ -1,7 +1,6 @@
 -- `matching` meets its contract: the rules that are left fall.
 -- Assumes nothing.
 use Prim.Native.Nat.{_-_}
-use native.Mathlib.Omega.{arith}
 use borrow.Author.Needs.{needs}
 use Rattle.follow.proofs.CommitLaws.{length-mapped}
 use Rattle.viewer.specs.Stands.{Sized}
