@@ -1,0 +1,15 @@
+pub mod Tables
+pub mod Standing
+pub mod Kept
+pub mod Telling
+pub mod AnswerLaws
+pub mod RoleLaws
+pub mod RuleLaws
+pub mod EventLaws
+pub mod LineLaws
+pub mod RecordLaws
+pub mod MatchLaws
+pub mod WriteLaws
+pub mod FilmRight
+pub mod LinesRight
+pub mod Examples

@@ -1,0 +1,54 @@
+-- Two small films as data: each record with its line. `examples-right` of proofs/Examples.antt computes the lines from the definitions of Film.antt and
+-- Lines.antt.
+-- Assumes nothing.
+use mathlib.Core.Path.{_≡_}
+use mathlib.Core.List.{List, [], _∷_, _++_, map}
+use Prim.Native.Nat.{ℕ}
+use Prim.Native.String.{String}
+use lib.ListN.{take, replicate}
+use Rattle.grammar.specs.Text.{bytesOf}
+use Rattle.viewer.specs.Film.{freshFilm}
+use Rattle.viewer.specs.Showing.{linesOf}
+
+-- a record and its line, as printed
+pub record Row : Type 0 where
+  pub text : String
+  pub line : String
+
+abbrev pub row : String → String → Row
+row s l = record { text = s; line = l }
+
+-- a record: byte 0 and the text, spaces, the newline
+abbrev pub recordOf : String → List ℕ
+recordOf s = take 127 (bytesOf s ++ replicate 127 32) ++ (10 ∷ [])
+
+-- a fresh film says these lines
+abbrev pub Said : List Row → Type 0
+Said rs = linesOf freshFilm (map (λ (r : Row). recordOf (r .text)) rs) ≡ map (λ (r : Row). bytesOf (r .line) ++ (10 ∷ [])) rs
+
+-- a rule sees the acts after its declaration and no other; a role below another meets `+`; a refused act is seen by none
+abbrev pub starts : List Row
+starts =
+    row "Lrole lamp under top" "D 00 lamp     | -"
+    ∷ row "Lrole uv under lamp" "D 00 uv       | -"
+    ∷ row "Lrule a: any*<+lamp>; any; hold" "D 00 a        | -"
+    ∷ row "Euv" "C 00 -        | a"
+    ∷ row "Lrule b: <uv>; any; hold" "D 00 b        | a"
+    ∷ row "Etop" "C 00 -        | -"
+    ∷ row "Lrule c: any; any; pass" "D 00 c        | -"
+    ∷ row "Emauve" "R 06 -        | -"
+    ∷ row "Elamp" "C 00 -        | a c"
+    ∷ []
+
+-- refusals, and the list of no acts
+abbrev pub refusals : List Row
+refusals =
+    row "Quv" "R 03 -        | -"
+    ∷ row "Lrule a: ()+<top>; any; hold" "D 00 a        | a"
+    ∷ row "Etop;" "R 04 -        | a"
+    ∷ row "Lrole a under top" "R 05 -        | a"
+    ∷ row "Lrole b under c" "R 06 -        | a"
+    ∷ row "Lrule b: <><><><><><><><><><><><><><><><><><><><><><><><><><><><><><><><>;any;hold" "R 07 -        | a"
+    ∷ row "Etop" "C 00 -        | a"
+    ∷ row "E" "C 00 -        | -"
+    ∷ []

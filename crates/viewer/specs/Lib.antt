@@ -1,0 +1,7 @@
+pub mod Film
+pub mod Stands
+pub mod Answers
+pub mod Views
+pub mod Lines
+pub mod Showing
+pub mod Examples
