@@ -1,4 +1,6 @@
 // The text of a record, and whether all of its bytes have a class.
+use lexer::classes::CLASSES;
+use lexer::classes::class_in;
 ghost use mathlib.Core.Path.{_≡_};
 ghost use Rattle.frame.specs.Text.{textOf, allClassed};
 
@@ -20,9 +22,10 @@ pub fn text(bytes: &[u8]) -> &[u8]
 pub fn all_classed(text: &[u8]) -> bool
     ensures { λ r. ⌜ r ≡ allClassed (now (text .entry)) ⌝ }
 {
+    let classes = CLASSES;
     let mut i = 0;
     while i < text.len() {
-        if lexer::class_of(text[i]) == 0 {
+        if class_in(&classes, text[i]) == 0 {
             return false;
         }
         i += 1;

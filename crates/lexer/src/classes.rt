@@ -1,8 +1,9 @@
 // The class of a byte, from a table of 256 entries. Document 01, "A record".
 ghost use mathlib.Core.Path.{_≡_};
-ghost use Rattle.lexer.specs.Class.{classOf, wordy};
+ghost use lib.ListN.{getD};
+ghost use Rattle.lexer.specs.Class.{classOf, within};
 
-const CLASSES: [u8; 256] = [
+pub const CLASSES: [u8; 256] = [
     0,
     0,
     0,
@@ -268,16 +269,19 @@ pub fn class_of(b: u8) -> u8
     CLASSES[b as usize]
 }
 
-// Whether a byte stands in words: class 2, 3 or 4.
-pub fn in_word(b: u8) -> bool
-    ensures { λ r. ⌜ r ≡ wordy b ⌝ }
+// The class of a byte, from a copy of the table: a loop makes one copy and not one at every byte.
+pub fn class_in(classes: &[u8; 256], b: u8) -> u8
+    ensures { λ r. ⌜ r ≡ getD (now (classes .entry)) b 0 ⌝ }
 {
-    let c = class_of(b);
-    if c < 2 {
+    classes[b as usize]
+}
+
+// Whether the bytes of a class stand in words: 2, 3 and 4.
+pub fn in_words(class: u8) -> bool
+    ensures { λ r. ⌜ r ≡ within 2 4 class ⌝ }
+{
+    if class < 2 {
         return false;
     }
-    if 4 < c {
-        return false;
-    }
-    true
+    class <= 4
 }

@@ -1,6 +1,8 @@
 // Words as parts of the text, and their kinds.
+use crate::classes::CLASSES;
+use crate::classes::class_in;
 use crate::classes::class_of;
-use crate::classes::in_word;
+use crate::classes::in_words;
 ghost use mathlib.Core.Path.{_≡_};
 ghost use lib.ListN.{length};
 ghost use Rattle.lexer.specs.Class.{wordy, spacey};
@@ -39,9 +41,10 @@ pub const ZERO: u8 = 12;
 fn word_length(s: &[u8]) -> usize
     ensures { λ r. ⌜ r ≡ length (run wordy (now (s .entry))) ⌝ }
 {
+    let classes = CLASSES;
     let mut i = 0;
     while i < s.len() {
-        if in_word(s[i]) {
+        if in_words(class_in(&classes, s[i])) {
             i += 1;
         } else {
             return i;
@@ -62,9 +65,10 @@ pub fn word(s: &[u8]) -> &[u8]
 fn spaces(s: &[u8]) -> usize
     ensures { λ r. ⌜ r ≡ length (run spacey (now (s .entry))) ⌝ }
 {
+    let classes = CLASSES;
     let mut i = 0;
     while i < s.len() {
-        if class_of(s[i]) == 1 {
+        if class_in(&classes, s[i]) == 1 {
             i += 1;
         } else {
             return i;

@@ -1,27 +1,33 @@
 use mathlib.Core.Path.{_≡_, refl, sym, _∙_}
 use Prim.Native.Nat.{_-_, _≤_}
-use lib.ListN.{length, drop}
+use lib.ListN.{length, drop, getD}
+use native.Mathlib.Omega.{arith}
 use borrow.Author.Needs.{needs}
+use Rattle.lexer.proofs.ClassTable.{class-at}
 use Rattle.frame.specs.Text.{allClassed}
 use Rattle.frame.proofs.TextLaws.{classed-more, classed-stop, classed-end}
 use Rattle.frame.proofs.texts.all_classed.Statement.{statement}
 use Rattle.frame.proofs.texts.all_classed.Tie as tie
 
 abbrev Inv-loop : tie.InvT-loop
-Inv-loop text i₀ i = (i ≤ length text) × (allClassed text ≡ allClassed (drop i text))
+Inv-loop text classes i₀ i = (i ≤ length text) × (allClassed text ≡ allClassed (drop i text))
 
 abbrev μ-loop : tie.MeasureT-loop
-μ-loop text i₀ i = length text - i
+μ-loop text classes i₀ i = length text - i
 
 returns : tie.Need-returns Inv-loop μ-loop
 returns c =
-    let d = c .before .before .before in
-    sym (d .before .loop .inv .1 ∙ classed-stop _ _ (d .loop-test .taken) (sym (c .before .class-of .ensures) ∙ c .if1 .taken))
+    let d = c .before .before .before .before in
+    let b = getD (c .before .before .before .before .before .before .before .args .text .now) (d .before .loop .i) 0 in
+    let h = class-at b (omega (arith, c .before .before .shared-slice-known2 .given (d .before .loop .i))) in
+    sym (d .before .loop .inv .1 ∙ classed-stop _ _ (d .loop-test .taken) (sym (c .before .class-in .ensures ∙ h) ∙ c .if1 .taken))
 
 loop-again : tie.Need-loop-again Inv-loop μ-loop
 loop-again c =
-    let d = c .before .before .before in
-    (search needs, d .before .loop .inv .1 ∙ classed-more _ _ (d .loop-test .taken) (λ e. c .if1 .left (c .before .class-of .ensures ∙ e)))
+    let d = c .before .before .before .before in
+    let b = getD (c .before .before .before .before .before .before .before .args .text .now) (d .before .loop .i) 0 in
+    let h = class-at b (omega (arith, c .before .before .shared-slice-known2 .given (d .before .loop .i))) in
+    (search needs, d .before .loop .inv .1 ∙ classed-more _ _ (d .loop-test .taken) (λ e. c .if1 .left (c .before .class-in .ensures ∙ h ∙ e)))
 
 returns-2 : tie.Need-returns-2 Inv-loop μ-loop
 returns-2 c = sym (c .before .loop .inv .1 ∙ classed-end _ _ (c .loop-test .left))
