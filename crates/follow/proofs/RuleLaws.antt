@@ -1,6 +1,6 @@
 -- What each way through `compiled` and `rule_step` shows.
 -- Assumes nothing.
-use mathlib.Core.Path.{_≡_, refl, ap, _∙_}
+use mathlib.Core.Path.{_≡_, refl, sym, ap, _∙_}
 use mathlib.Core.Bool.{false}
 use mathlib.Core.List.{List, _∷_, _++_}
 use Prim.Native.Nat.{ℕ, _+_, _<_, _≤_}
@@ -12,6 +12,7 @@ use Rattle.code.specs.declared.encode.Encoded.{Encoded}
 use Rattle.patterns.specs.Meets.{meets}
 use Rattle.patterns.specs.Judged.{orderIn}
 use Rattle.positions.specs.Sums.{sums, stepOf, endsOf}
+use Rattle.positions.proofs.NothingHeld.{step-none}
 use Rattle.follow.specs.Meaning.{pastMeaning}
 use Rattle.follow.specs.Walked.{AfterPast, PastRead}
 use Rattle.follow.specs.Rules.{Tree, Spelled, Compiled, RuleStepped}
@@ -64,3 +65,10 @@ module _ (rule : Rule) (m : ℕ) (event ps : List ℕ) where
 
   pub step-right : (w : Walk) (r : ℕ) → PastRead m ps event (take (rule .len) (rule .code)) 0 1 w → r ≡ stepOf m (w .sums) → RuleStepped rule m event ps r
   step-right w r h e = record { right = λ t s. e ∙ ap (stepOf m) (walked m ps event (rule .code) (rule .len) w h t s .0) }
+
+-- no position is held
+pub step-idle : (rule : Rule) (m : ℕ) (event ps : List ℕ) → m ≡ 0 → RuleStepped rule m event ps 0
+step-idle rule m event ps e =
+    record {
+      right = λ t s. step-none (meets (orderIn ps) event) (pastMeaning (t .past)) 1 ∙ ap (λ (i : ℕ). stepOf i (sums i (meets (orderIn ps) event) (pastMeaning (t .past)) 1)) (sym e);
+    }

@@ -52,10 +52,13 @@ pub fn compiled(name: u64, body: Encoded) -> Rule
     }
 }
 
-// The positions of a rule's past after one more event.
+// The positions of a rule's past after one more event. Where none is held, none will be: a rule that can no longer match costs nothing.
 pub fn rule_step(rule: Rule, positions: u64, event: &[u8], parents: &[u8]) -> u64
     ensures { λ r. ⌜ RuleStepped rule positions (now (event .entry)) (now (parents .entry)) r ⌝ }
 {
+    if positions == 0 {
+        return 0;
+    }
     let code = rule.code;
     let len = rule.len;
     if 126 < len {

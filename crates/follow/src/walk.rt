@@ -96,7 +96,14 @@ fn factor(code: &[u8], at: usize, k: usize, positions: u64, event: &[u8], parent
     ensures { λ r. ⌜ FactorRead positions (now (parents .entry)) (now (event .entry)) (now (code .entry)) at k r ⌝ }
 {
     let b = base(code, at, k, positions, event, parents);
-    stars(code, b)
+    let e = b.end;
+    if e >= code.len() {
+        return b;
+    }
+    if code[e] == b'*' {
+        return stars(code, b);
+    }
+    b
 }
 
 // A sequence: factors side by side.

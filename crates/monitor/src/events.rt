@@ -18,10 +18,11 @@ ghost use lib.ListN.{getD};
 ghost use Rattle.monitor.specs.Outcomes.{ruleWord, NamesRead, CommitAnswered, endedWith, OutcomeAnswered, EventAnswered, TextAnswered};
 
 // The packed name of a role.
-fn role_name(names: [u64; 64], id: u8) -> u64
-    ensures { λ r. ⌜ r ≡ getD names id 0 ⌝ }
+fn role_name(names: &[u64], id: u8) -> u64
+    ensures { λ r. ⌜ r ≡ getD (now (names .entry)) id 0 ⌝ }
 {
-    if id < 64 { names[id as usize] } else { 0 }
+    let i = id as usize;
+    if i < names.len() { names[i] } else { 0 }
 }
 
 // The packed name of a rule.
@@ -42,10 +43,10 @@ fn role_names(f: Follower, event: Event) -> [u64; 4]
     let names = f.names;
     let roles = event.roles;
     [
-        role_name(names, roles[0]),
-        role_name(names, roles[1]),
-        role_name(names, roles[2]),
-        role_name(names, roles[3]),
+        role_name(&names, roles[0]),
+        role_name(&names, roles[1]),
+        role_name(&names, roles[2]),
+        role_name(&names, roles[3]),
     ]
 }
 

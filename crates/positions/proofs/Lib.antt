@@ -3,6 +3,7 @@ pub mod Lists
 pub mod Matching
 pub mod Allowed
 pub mod SetLaws
+pub mod NothingHeld
 pub mod WalkLaws
 pub mod Following
 pub mod History

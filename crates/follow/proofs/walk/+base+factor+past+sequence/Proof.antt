@@ -3,6 +3,7 @@
 use mathlib.Core.Path.{sym, _∙_}
 use Prim.Native.Nat.{_-_, _+_, _*_}
 use lib.ListN.{length}
+use Rattle.follow.proofs.StarLaws.{stars-none, stars-stop}
 use Rattle.follow.proofs.WalkLaws.{no-base, pattern-base, short-base, empty-base, open-base, inner-base, whole-factor, last-seq, end-seq, more-seq, last-past, end-past, either-past}
 use borrow.Author.Needs.{needs}
 use native.Mathlib.Omega.{arith}
@@ -99,7 +100,13 @@ base-returns-6 : (t : ℕ) → base-lts.Need-returns-6 (base-claims t) (base-at 
 base-returns-6 t c = pattern-base _ _ _ _ _ _ (c .before .before .if2 .left) _ (c .before .pattern .ensures) _ (c .one .ensures)
 
 factor-returns : (t : ℕ) → factor-lts.Need-returns (factor-claims t) (factor-at t) factor.Post
-factor-returns t c = whole-factor _ _ _ _ _ _ _ _ (c .before .base .ensures) (c .stars .ensures)
+factor-returns t c = whole-factor _ _ _ _ _ _ _ _ (c .before .base .ensures) (stars-none _ _ (c .if1 .taken))
+
+factor-returns-2 : (t : ℕ) → factor-lts.Need-returns-2 (factor-claims t) (factor-at t) factor.Post
+factor-returns-2 t c = whole-factor _ _ _ _ _ _ _ _ (c .before .before .before .before .base .ensures) (c .stars .ensures)
+
+factor-returns-3 : (t : ℕ) → factor-lts.Need-returns-3 (factor-claims t) (factor-at t) factor.Post
+factor-returns-3 t c = whole-factor _ _ _ _ _ _ _ _ (c .before .before .before .base .ensures) (stars-stop _ _ (c .if2 .left))
 
 past-returns : (t : ℕ) → past-lts.Need-returns (past-claims t) (past-at t) past.Post
 past-returns t c = last-past _ _ _ _ _ _ _ (c .before .sequence .ensures) (c .if1 .taken)
@@ -156,8 +163,11 @@ pub +base+factor+past+sequence-spec : {M : Type 1} → statement M
     (factor-at t)
     factor.Post
     (λ c κs. search needs)
+    (factor-returns t)
+    (λ c. search needs)
     (λ c κs. search needs)
-    (factor-returns t))
+    (factor-returns-2 t)
+    (factor-returns-3 t))
     (λ t. past-lts.spec (past-claims t)
     (past-at t)
     past.Post
