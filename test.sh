@@ -12,11 +12,15 @@ trap 'rm -rf "$out"' EXIT
 rustc --edition 2021 -O -o "$out/book" tests/book/main.rs
 "$out/book" crates/runs/data
 
-# Rust calls the proved code by its static library.
+# Rust and C call the proved code by its static libraries.
+rt check probe host
 rt staticlib probe
 rustc --edition 2021 -O -L target/staticlib -o "$out/pasts" tests/pasts/main.rs
 "$out/pasts"
 rt staticlib host
+command -v cc > /dev/null || { apt-get update && apt-get install -y gcc libc6-dev; }
+cc -std=c99 -Wall -Wextra -Werror -O2 -o "$out/header" tests/header/main.c target/staticlib/libhost.a
+"$out/header" crates/session/data/session.rec crates/session/stdout
 rustc --edition 2021 -O -L target/staticlib -o "$out/calls" tests/calls/main.rs
 "$out/calls"
 
