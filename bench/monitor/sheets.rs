@@ -1,0 +1,96 @@
+//! The sheets that are measured, and the acts offered on them.
+
+/// A list of lines to begin a session with.
+pub type Sheet = Vec<String>;
+
+fn role(name: &str, parent: &str) -> String {
+    format!("Lrole {name} under {parent}")
+}
+
+/// Five short rules over the roles of `samples/session.txt`.
+pub fn light() -> Sheet {
+    let mut lines = Vec::new();
+    for (name, parent) in [
+        ("lamp", "top"),
+        ("white", "lamp"),
+        ("uv", "lamp"),
+        ("low", "top"),
+        ("filter", "top"),
+        ("cut420", "filter"),
+        ("open", "filter"),
+        ("expose", "top"),
+        ("frag17", "top"),
+        ("frag18", "top"),
+    ] {
+        lines.push(role(name, parent));
+    }
+    for rule in [
+        "dim: any*; <uv>; send <uv low>",
+        "needcut: any*<uv *>[not <cut420>]*; <expose *>; hold",
+        "allow17: (any*<expose frag17>)(any*<expose frag17>)any*; <expose frag17>; hold",
+        "note: any*<+lamp *>; <open>; send <open low>",
+        "first: [not <+filter *>]*; <expose *>; hold",
+    ] {
+        lines.push(format!("Lrule {rule}"));
+    }
+    lines
+}
+
+/// Acts that no rule of the light sheet answers to: each is committed as it is.
+pub const LIGHT_ACTS: [&str; 8] = [
+    "white",
+    "cut420",
+    "expose frag18",
+    "uv low",
+    "cut420",
+    "open",
+    "expose frag18",
+    "lamp low",
+];
+
+/// After this act, the light sheet holds every `expose frag18`.
+pub const BEFORE_HELD: &str = "Euv low";
+pub const HELD: [&str; 1] = ["expose frag18"];
+
+/// Every `uv` is sent on as `uv low`, and that is committed.
+pub const SENT: [&str; 1] = ["uv"];
+
+/// The roles that the heavy sheet's pasts speak of; `z` is declared too, and never offered.
+const LETTERS: [char; 8] = ['a', 'b', 'c', 'd', 'e', 'f', 'g', 'h'];
+
+/// 32 rules of 31 patterns: `any*<a>any*<b> ..`, 15 times `any*` and 16 names. When every name has come often enough, each `any*` stays
+/// alive for good, and the names after them come and go. The trigger, `<z>`, is never met.
+pub fn heavy() -> Sheet {
+    let mut lines: Sheet = LETTERS
+        .iter()
+        .map(|c| role(&c.to_string(), "top"))
+        .collect();
+    lines.push(role("z", "top"));
+    for i in 0..32 {
+        let letter = |k: usize| LETTERS[(k * (1 + i % 7) + i / 7) % 8];
+        let mut past: String = (0..15).map(|k| format!("any*<{}>", letter(k))).collect();
+        past.push_str(&format!("<{}>", letter(15)));
+        lines.push(format!("Lrule r{i}:{past};<z>;hold"));
+    }
+    lines
+}
+
+/// One role each, each letter in turn in an order that is not the alphabet's.
+pub const HEAVY_ACTS: [&str; 11] = ["a", "c", "b", "e", "h", "d", "d", "g", "f", "a", "b"];
+
+/// The costliest act known: 64 responses worked, each `anew`, so that each looks up a chain over 32 triggers, each trigger of 32 items, each item at
+/// the end of 60 steps from child to parent. It answers T 64.
+pub fn worst() -> Sheet {
+    let mut lines = vec![role("z", "top"), role("c0", "top")];
+    for k in 1..62 {
+        lines.push(role(&format!("c{k}"), &format!("c{}", k - 1)));
+    }
+    lines.push("Lrule r0:any*;any;anew <c61 c61 c61 c61>".to_string());
+    for i in 1..32 {
+        let terms = vec!["<+z+z+z+z>"; 8].join("or");
+        lines.push(format!("Lrule r{i}:any*;[{terms}];hold"));
+    }
+    lines
+}
+
+pub const WORST_ACTS: [&str; 1] = ["c61 c61 c61 c61"];
