@@ -1,35 +1,11 @@
-//! Times, as the processor time of this thread, so that other work on the machine counts little.
+//! Times by the wall clock, of which the least is taken: an interruption can only make such a time longer.
+//!
+//! The processor time of the thread would seem better on a busy machine, but it reads short now and then after an interruption, and the least of many
+//! times is then one of those.
 
-#[repr(C)]
-struct Time {
-    seconds: i64,
-    nanoseconds: i64,
-}
+use std::time::Instant;
 
-extern "C" {
-    fn clock_gettime(clock: i32, time: *mut Time) -> i32;
-}
-
-/// CLOCK_THREAD_CPUTIME_ID of Linux, the only system that the library is for.
-const THREAD: i32 = 3;
-
-fn now() -> f64 {
-    let mut time = Time {
-        seconds: 0,
-        nanoseconds: 0,
-    };
-    assert!(unsafe { clock_gettime(THREAD, &mut time) } == 0);
-    time.seconds as f64 * 1e9 + time.nanoseconds as f64
-}
-
-/// The nanoseconds that something takes.
-pub fn time(run: impl FnOnce()) -> f64 {
-    let start = now();
-    run();
-    now() - start
-}
-
-/// The least of several times.
+/// The least of several times, in nanoseconds.
 pub struct Least(f64);
 
 impl Least {
@@ -39,7 +15,9 @@ impl Least {
 
     /// One more time, which is handed back too.
     pub fn take(&mut self, run: impl FnOnce()) -> f64 {
-        let taken = time(run);
+        let start = Instant::now();
+        run();
+        let taken = start.elapsed().as_secs_f64() * 1e9;
         self.0 = self.0.min(taken);
         taken
     }

@@ -14,7 +14,6 @@ mod table;
 
 use measure::{same, Case};
 use session::Session;
-use sheets::Sheet;
 
 /// The two monitors on every stored session, which has what no sheet here has: refusals above all.
 fn compare_stored(directory: &str) {
@@ -35,121 +34,64 @@ fn compare_stored(directory: &str) {
     println!("{sessions} stored sessions: the same replies from both\n");
 }
 
-/// One row: `count` acts after a sheet and `before` acts.
-fn acts(name: &str, sheet: &Sheet, list: &[&str], before: usize, count: usize, reply: &str) {
-    let session = Session::new(sheet, list, before + count);
-    let from = sheet.len() + before;
-    let to = from + count;
-    table::row(
+/// One row: `count` acts, after the sheet and `before` acts.
+fn acts(name: &str, offer: &str, before: usize, count: usize) {
+    let offer = sheets::offer(offer);
+    let from = offer.sheet.len() + before;
+    let case = Case {
         name,
-        Case {
-            name,
-            session: &session,
-            from,
-            to,
-            reply,
-        }
-        .cost(),
-    );
+        session: &Session::new(&offer.sheet, offer.acts, before + count),
+        from,
+        to: from + count,
+        reply: offer.reply,
+    };
+    table::row(name, case.cost());
 }
 
 /// One row: the rule lines of a sheet.
-fn rules(name: &str, sheet: &Sheet) {
-    let session = Session::new(sheet, &[], 0);
-    let from = sheet
-        .iter()
-        .position(|line| line.starts_with("Lrule"))
-        .unwrap();
-    let to = sheet.len();
-    table::row(
+fn rules(name: &str, offer: &str) {
+    let sheet = sheets::offer(offer).sheet;
+    let rule = |line: &String| line.starts_with("Lrule");
+    let case = Case {
         name,
-        Case {
-            name,
-            session: &session,
-            from,
-            to,
-            reply: "D 00",
-        }
-        .cost(),
-    );
+        session: &Session::new(&sheet, &[], 0),
+        from: sheet.iter().position(rule).expect("a rule"),
+        to: sheet.len(),
+        reply: "D 00",
+    };
+    table::row(name, case.cost());
 }
 
-fn sizes(sheet: &Sheet) -> usize {
-    let session = Session::new(sheet, &[], 0);
-    fast::run(&session, session.calls(), &mut session.answers()).bytes()
+/// One row: the state that a sheet leaves. No act makes it larger.
+fn state(name: &str, offer: &str) {
+    let session = Session::new(&sheets::offer(offer).sheet, &[], 0);
+    let monitor = fast::run(&session, session.calls(), &mut session.answers());
+    table::sizes(name, layout::STATE, monitor.bytes());
 }
 
 fn all() {
-    let (light, heavy, worst) = (sheets::light(), sheets::heavy(), sheets::worst());
-    let bare = light[..10].to_vec();
-    let dark = [&light[..], &[sheets::BEFORE_HELD.to_string()]].concat();
     table::head();
-    acts(
-        "no rule, an act",
-        &bare,
-        &sheets::LIGHT_ACTS,
-        0,
-        10_000,
-        "C 00",
-    );
-    acts(
-        "light, an act",
-        &light,
-        &sheets::LIGHT_ACTS,
-        0,
-        10_000,
-        "C 00",
-    );
-    acts(
-        "light, an act held",
-        &dark,
-        &sheets::HELD,
-        0,
-        10_000,
-        "H 01",
-    );
-    acts(
-        "light, an act sent on",
-        &light,
-        &sheets::SENT,
-        0,
-        10_000,
-        "C 01",
-    );
-    acts(
-        "heavy, an act",
-        &heavy,
-        &sheets::HEAVY_ACTS,
-        0,
-        1_000,
-        "C 00",
-    );
-    acts("worst, an act", &worst, &sheets::WORST_ACTS, 0, 10, "T 64");
-    for (before, count) in [
-        (1_000, 10_000),
-        (10_000, 10_000),
-        (100_000, 50_000),
-        (1_000_000, 250_000),
-    ] {
-        let name = format!("light, after {} acts", table::grouped(before));
-        acts(&name, &light, &sheets::LIGHT_ACTS, before, count, "C 00");
-    }
-    rules("light, a rule line", &light);
-    rules("heavy, a rule line", &heavy);
-    table::sizes("state, light", layout::STATE, sizes(&light));
-    table::sizes("state, heavy", layout::STATE, sizes(&heavy));
+    acts("no rule, an act", "bare", 0, 10_000);
+    acts("light, an act", "light", 0, 10_000);
+    acts("light, an act held", "held", 0, 10_000);
+    acts("light, an act sent on", "sent", 0, 10_000);
+    acts("heavy, an act", "heavy", 0, 1_000);
+    acts("worst, an act", "worst", 0, 2);
+    acts("light, after 1,000 acts", "light", 1_000, 2_000);
+    acts("light, after 10,000 acts", "light", 10_000, 10_000);
+    acts("light, after 100,000 acts", "light", 100_000, 50_000);
+    acts("light, after 1,000,000 acts", "light", 1_000_000, 250_000);
+    rules("light, a rule line", "light");
+    rules("heavy, a rule line", "heavy");
+    state("light, the state", "light");
+    state("heavy, the state", "heavy");
 }
 
 /// One run of the proved monitor alone.
-fn profile(sheet: &str, count: &str) {
-    let (sheet, list): (Sheet, &[&str]) = match sheet {
-        "light" => (sheets::light(), &sheets::LIGHT_ACTS),
-        "sent" => (sheets::light(), &sheets::SENT),
-        "heavy" => (sheets::heavy(), &sheets::HEAVY_ACTS),
-        "worst" => (sheets::worst(), &sheets::WORST_ACTS),
-        _ => panic!("no sheet {sheet}: light, sent, heavy, worst"),
-    };
-    let session = Session::new(&sheet, list, count.parse().expect("a count"));
+fn once(offer: &str, count: &str) {
+    let offer = sheets::offer(offer);
+    let count = count.parse().expect("a count of acts");
+    let session = Session::new(&offer.sheet, offer.acts, count);
     proved::run(&session, session.calls(), &mut session.answers());
 }
 
@@ -160,7 +102,7 @@ fn main() {
             compare_stored(directory);
             all();
         }
-        ["run", sheet, count] => profile(sheet, count),
+        ["run", offer, count] => once(offer, count),
         _ => panic!("give the directory of the stored sessions"),
     }
 }

@@ -22,7 +22,7 @@ pub struct Cost {
 
 /// How long to go on with one case, in nanoseconds, and how many rounds it has at the least.
 const ENOUGH: f64 = 2e9;
-const ROUNDS: usize = 2;
+const ROUNDS: usize = 6;
 
 /// Stops the program where the answers differ: nothing is timed that is not the same work.
 pub fn same(name: &str, ours: &Answers, theirs: &Answers, calls: usize) {

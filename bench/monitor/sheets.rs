@@ -8,7 +8,7 @@ fn role(name: &str, parent: &str) -> String {
 }
 
 /// Five short rules over the roles of `samples/session.txt`.
-pub fn light() -> Sheet {
+fn light() -> Sheet {
     let mut lines = Vec::new();
     for (name, parent) in [
         ("lamp", "top"),
@@ -36,8 +36,15 @@ pub fn light() -> Sheet {
     lines
 }
 
+/// A sheet, the acts offered on it round and round, and how the reply to each begins.
+pub struct Offer {
+    pub sheet: Sheet,
+    pub acts: &'static [&'static str],
+    pub reply: &'static str,
+}
+
 /// Acts that no rule of the light sheet answers to: each is committed as it is.
-pub const LIGHT_ACTS: [&str; 8] = [
+const PLAIN: [&str; 8] = [
     "white",
     "cut420",
     "expose frag18",
@@ -48,19 +55,28 @@ pub const LIGHT_ACTS: [&str; 8] = [
     "lamp low",
 ];
 
-/// After this act, the light sheet holds every `expose frag18`.
-pub const BEFORE_HELD: &str = "Euv low";
-pub const HELD: [&str; 1] = ["expose frag18"];
-
-/// Every `uv` is sent on as `uv low`, and that is committed.
-pub const SENT: [&str; 1] = ["uv"];
+/// What is measured, by name.
+pub fn offer(name: &str) -> Offer {
+    let (sheet, acts, reply): (Sheet, &'static [&'static str], _) = match name {
+        "bare" => (light()[..10].to_vec(), &PLAIN, "C 00"),
+        "light" => (light(), &PLAIN, "C 00"),
+        // no filter has been set, so that the rule `first` holds every exposure
+        "held" => (light(), &["expose frag18"], "H 01"),
+        // the rule `dim` sends each on as `uv low`, and that is committed
+        "sent" => (light(), &["uv"], "C 01"),
+        "heavy" => (heavy(), &HEAVY_ACTS, "C 00"),
+        "worst" => (worst(), &["c61 c61 c61 c61"], "T 64"),
+        _ => panic!("no sheet {name}: bare, light, held, sent, heavy, worst"),
+    };
+    Offer { sheet, acts, reply }
+}
 
 /// The roles that the heavy sheet's pasts speak of; `z` is declared too, and never offered.
 const LETTERS: [char; 8] = ['a', 'b', 'c', 'd', 'e', 'f', 'g', 'h'];
 
 /// 32 rules of 31 patterns: `any*<a>any*<b> ..`, 15 times `any*` and 16 names. When every name has come often enough, each `any*` stays
 /// alive for good, and the names after them come and go. The trigger, `<z>`, is never met.
-pub fn heavy() -> Sheet {
+fn heavy() -> Sheet {
     let mut lines: Sheet = LETTERS
         .iter()
         .map(|c| role(&c.to_string(), "top"))
@@ -76,11 +92,11 @@ pub fn heavy() -> Sheet {
 }
 
 /// One role each, each letter in turn in an order that is not the alphabet's.
-pub const HEAVY_ACTS: [&str; 11] = ["a", "c", "b", "e", "h", "d", "d", "g", "f", "a", "b"];
+const HEAVY_ACTS: [&str; 11] = ["a", "c", "b", "e", "h", "d", "d", "g", "f", "a", "b"];
 
-/// The costliest act known: 64 responses worked, each `anew`, so that each looks up a chain over 32 triggers, each trigger of 32 items, each item at
-/// the end of 60 steps from child to parent. It answers T 64.
-pub fn worst() -> Sheet {
+/// The costliest act known: 64 responses worked, each `anew`, so that each looks up a chain over 31 triggers of 32 items, and each item is answered no
+/// after some 60 steps from child to parent. It ends too long, T 64.
+fn worst() -> Sheet {
     let mut lines = vec![role("z", "top"), role("c0", "top")];
     for k in 1..62 {
         lines.push(role(&format!("c{k}"), &format!("c{}", k - 1)));
@@ -92,5 +108,3 @@ pub fn worst() -> Sheet {
     }
     lines
 }
-
-pub const WORST_ACTS: [&str; 1] = ["c61 c61 c61 c61"];

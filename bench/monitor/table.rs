@@ -3,7 +3,7 @@
 use crate::measure::Cost;
 
 /// A number with commas.
-pub fn grouped(n: usize) -> String {
+fn grouped(n: usize) -> String {
     let digits = n.to_string();
     let mut out = String::new();
     for (i, digit) in digits.chars().enumerate() {
