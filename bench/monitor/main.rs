@@ -75,7 +75,7 @@ fn all() {
     acts("light, an act", "light", 0, 10_000);
     acts("light, an act held", "held", 0, 10_000);
     acts("light, an act sent on", "sent", 0, 10_000);
-    acts("heavy, an act", "heavy", 0, 1_000);
+    acts("heavy, an act", "heavy", 200, 1_000);
     acts("worst, an act", "worst", 0, 2);
     acts("light, after 1,000 acts", "light", 1_000, 2_000);
     acts("light, after 10,000 acts", "light", 10_000, 10_000);
