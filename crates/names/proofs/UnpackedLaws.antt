@@ -17,6 +17,18 @@ use Rattle.names.specs.Unpacked.{inked, columnsOf, unpacked}
 use Rattle.names.proofs.ColumnLaws.{column-packed}
 use Rattle.names.proofs.NameLaws.{name-packable}
 
+-- the columns one by one
+pub column-among : (n i : ℕ) → i < 8 → getD (columnsOf n) i 0 ≡ columnAt n i
+column-among n zero h = refl
+column-among n (suc zero) h = refl
+column-among n (suc (suc zero)) h = refl
+column-among n (suc (suc (suc zero))) h = refl
+column-among n (suc (suc (suc (suc zero)))) h = refl
+column-among n (suc (suc (suc (suc (suc zero))))) h = refl
+column-among n (suc (suc (suc (suc (suc (suc zero)))))) h = refl
+column-among n (suc (suc (suc (suc (suc (suc (suc zero))))))) h = refl
+column-among n (suc (suc (suc (suc (suc (suc (suc (suc i)))))))) h = absurd (omega arith)
+
 -- a packed name has at most eight bytes, whatever number it is
 pub unpacked-length : (n : ℕ) → length (unpacked n) ≤ 8
 unfolding unpacked
