@@ -1,4 +1,4 @@
--- What each way through `pattern` shows.
+-- What each way through a pattern shows.
 -- Assumes nothing.
 use mathlib.Core.Path.{_≡_, refl, _∙_}
 use mathlib.Core.Bool.{Bool, true, false}
@@ -22,6 +22,16 @@ module _ (ps event code : List ℕ) (at : ℕ) where
       go (plain anyEvent) rest e = absurd (none code at _ _ h e)
       go (plain (items xs)) rest e = absurd (none code at _ _ h e)
       go (bracketed c) rest e = absurd (none code at _ _ h e)
+
+  -- no pattern begins with not
+  pub not-pattern : getD code at 0 ≡ 110 → (r : Judged) → at + 1 ≤ r .end → PatternRead ps event code at r
+  unfolding codePattern codeSimple
+  not-pattern b r l = record { onwards = omega arith; moves = λ h. omega arith; right = go }
+    where
+      go : (p : Pattern ℕ) (rest : List ℕ) → drop at code ≡ codePattern p ++ rest → (r .ok ≡ meets (orderIn ps) event p) × (r .end ≡ at + length (codePattern p))
+      go (plain anyEvent) rest e = let h = here code at _ _ e in absurd (omega arith)
+      go (plain (items xs)) rest e = let h = here code at _ _ e in absurd (omega arith)
+      go (bracketed c) rest e = let h = here code at _ _ e in absurd (omega arith)
 
   pub any-pattern : getD code at 0 ≡ 97 → PatternRead ps event code at (record { end = at + 1; ok = true })
   unfolding codePattern codeSimple meets itemsMeet
