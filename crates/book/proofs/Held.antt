@@ -1,23 +1,18 @@
 -- Names compared as bytes, and names that are held.
 -- Assumes nothing.
-use mathlib.Core.Path.{_≡_, refl, ap, _∙_}
-use mathlib.Core.Bool.{Bool, true, _&&_}
+use mathlib.Core.Path.{_≡_, refl}
+use mathlib.Core.Bool.{true}
 use mathlib.Core.List.{List, [], _∷_, _++_}
-use borrow.Author.Tests.{eq-eqb}
 use Rattle.lexer.specs.Words.{same}
 use Rattle.lexer.proofs.KindLaws.{same-true}
 use Rattle.lexer.proofs.Bools.{and-left, and-right, and-both, or-right}
+use Rattle.lexer.proofs.SameLaws.{same-refl}
 use Rattle.patterns.specs.Roles.{Role, isHeld, allHeld}
 use Rattle.patterns.proofs.RoleLaws.{Lawful}
 use Rattle.book.specs.Names.{Name, Roles}
 
-same-itself : (a : Name) → same a a ≡ true
-unfolding same
-same-itself [] = refl
-same-itself (x ∷ a) = ap (λ (q : Bool). q && same a a) (eq-eqb x x refl) ∙ same-itself a
-
 pub lawful : Lawful same
-lawful = record { itself = same-itself; same = same-true }
+lawful = record { itself = same-refl; same = same-true }
 
 -- roles of all these names are held
 abbrev pub Held : Roles → List Name → Type 0

@@ -11,4 +11,3 @@ pub mod Demands
 pub mod Replies
 pub mod Meaning
 pub mod Examples
-pub mod Cases

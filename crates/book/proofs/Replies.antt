@@ -2,32 +2,15 @@
 -- Assumes nothing.
 use mathlib.Core.Path.{_≡_}
 use mathlib.Core.Bool.{Bool, true, false, cond}
-use mathlib.Core.List.{List, [], _∷_, _++_}
-use Prim.Native.Nat.{ℕ, _+_}
-use native.Mathlib.Omega.{arith}
+use mathlib.Core.List.{List, []}
+use Prim.Native.Nat.{ℕ}
 use lib.Dec.{eqb}
-use lib.ListN.{length, replicate, length-append, length-take, length-replicate}
+use lib.ListN.{length}
 use Rattle.chain.specs.Work.{committed, held, unfit, tooLong}
-use Rattle.reply.specs.Reply.{padded, spaced, dash, replyBytes}
-use Rattle.book.specs.Names.{Name, Outcome}
+use Rattle.reply.specs.Reply.{spaced, dash, replyBytes}
+use Rattle.reply.proofs.ReplyLaws.{reply-length}
+use Rattle.book.specs.Names.{Outcome}
 use Rattle.book.specs.Decide.{Decision, refused, newRole, newRule, worked, outcomeReply, answer}
-
-padded-length : (k : ℕ) (w : List ℕ) → length (padded k w) ≡ k
-unfolding padded
-padded-length k w =
-    let a = length-take k (w ++ replicate k 32) in
-    let b = length-append w (replicate k 32) in
-    let c = length-replicate {A = ℕ} k 32 in
-    omega arith
-
-reply-length : (letter n : ℕ) (name : Name) (text : List ℕ) → length (replyBytes letter n name text) ≡ 50
-unfolding replyBytes
-reply-length letter n name text =
-    let a = padded-length 8 name in
-    let b = padded-length 35 text in
-    let c = length-append (padded 8 name) (32 ∷ (padded 35 text ++ (10 ∷ []))) in
-    let d = length-append (padded 35 text) (10 ∷ []) in
-    omega arith
 
 outcome-length : (o : Outcome) → length (outcomeReply o) ≡ 50
 outcome-length (committed e n) = reply-length 67 n dash (spaced e)

@@ -8,4 +8,3 @@ pub mod Working
 pub mod Kept
 pub mod Text
 pub mod Examples
-pub mod Cases

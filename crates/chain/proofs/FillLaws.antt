@@ -18,7 +18,7 @@ use Rattle.chain.specs.Work.{fillSlot, consFilled, fill}
 use Rattle.chain.specs.Responses.{pickedAs, optional, behind, SlotRead, FillRead, TemplateRead}
 use Rattle.chain.specs.declared.responses.Picked.{Picked}
 use Rattle.chain.specs.declared.responses.Filled.{Filled}
-use Rattle.chain.proofs.Capped.{with, more-roles}
+use Rattle.chain.proofs.MoreRoles.{with, more-roles}
 
 beyond-length : (l : List ℕ) (i : ℕ) → length l ≤ i → getElem? l i ≡ none
 beyond-length [] i h = refl

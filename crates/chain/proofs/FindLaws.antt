@@ -8,6 +8,7 @@ use native.Mathlib.Omega.{arith}
 use lib.ListN.{length, getD, drop, take}
 use borrow.Author.Tests.{lt-ltb, le-ltb}
 use Rattle.lexer.proofs.Bools.{true-not-false}
+use Rattle.names.proofs.ColumnLaws.{getD-any}
 use Rattle.code.specs.Trees.{codePattern, codeResponse}
 use Rattle.patterns.specs.Meets.{meets}
 use Rattle.patterns.specs.Judged.{orderIn, PatternRead}
@@ -16,7 +17,6 @@ use Rattle.patterns.proofs.Here.{beyond}
 use Rattle.follow.specs.State.{capped, maxRules, noRule}
 use Rattle.follow.specs.declared.rules.Rule.{Rule}
 use Rattle.follow.specs.declared.state.Follower.{Follower}
-use Rattle.follow.proofs.CommitLaws.{getD-any}
 use Rattle.chain.specs.Work.{Duty, chain}
 use Rattle.chain.specs.Steps.{isDue, Holds, Kept, DueRead, chainOf, FoundRead}
 

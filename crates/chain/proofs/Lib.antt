@@ -1,4 +1,4 @@
-pub mod Capped
+pub mod MoreRoles
 pub mod FillLaws
 pub mod RespondLaws
 pub mod FindLaws

@@ -4,12 +4,14 @@ use mathlib.Core.Path.{_≡_, refl, sym, ap, _∙_}
 use mathlib.Core.Bool.{Bool, true, false, cond}
 use mathlib.Core.List.{List, _∷_, _++_}
 use Prim.Native.Nat.{ℕ, _+_, _<_, _≤_}
+use native.Mathlib.Nat.{ne-of-lt}
 use native.Mathlib.Omega.{arith}
 use lib.Dec.{ltb}
 use lib.ListN.{length, take, drop, getD, set, length-set}
 use lib.Seq.{getD-set-same, getD-set-other}
 use borrow.Author.Count.{below-more}
 use borrow.Author.Tests.{lt-ltb}
+use Rattle.names.proofs.ColumnLaws.{getD-any}
 use Rattle.code.specs.Trees.{codePattern, codePast, codeTail, codeRule, codeResponse}
 use Rattle.patterns.specs.Judged.{orderIn}
 use Rattle.patterns.proofs.Here.{here, beyond}
@@ -19,14 +21,13 @@ use Rattle.follow.specs.State.{capped, noRule, matchesAt, eventOf}
 use Rattle.follow.specs.declared.rules.Rule.{Rule}
 use Rattle.follow.specs.declared.state.Event.{Event}
 use Rattle.follow.specs.declared.state.Follower.{Follower}
-use Rattle.follow.proofs.CommitLaws.{getD-any}
+use Rattle.follow.proofs.Limits.{capped-small, capped-le}
 use Rattle.chain.specs.Work.{Duty, workEvent}
 use Rattle.chain.specs.Duties.{rulesHeld, KeepsAll, dutyOf, dutiesOf}
 use Rattle.chain.specs.Steps.{Holds, Kept, standOf}
 use Rattle.chain.specs.Runs.{placeOf, TableRead, fitted, begun, finish, RunRead, WorkedRead}
 use Rattle.chain.specs.declared.steps.Work.{Work}
 use Rattle.chain.specs.declared.run.Outcome.{Outcome}
-use Rattle.chain.proofs.Capped.{capped-small, capped-le}
 
 -- the entries before i are worked out
 pub record Placed (f : Follower) (count : ℕ) (to : List ℕ) (i : ℕ) : Type 0 where
@@ -35,9 +36,6 @@ pub record Placed (f : Follower) (count : ℕ) (to : List ℕ) (i : ℕ) : Type 
   pub long : length to ≡ 32
   pub rules : length (f .rules) ≡ 32
   pub done : (j : ℕ) → j < i → getD to j 0 ≡ placeOf (getD (f .rules) j noRule) (getD (f .positions) j 0)
-
-apart : (a b : ℕ) → a < b → a ≡ b → ⊥
-apart a b p e = omega arith
 
 module _ (f : Follower) (count : ℕ) (to : List ℕ) where
   pub start : count ≤ 32 → length to ≡ 32 → length (f .rules) ≡ 32 → Placed f count to 0
@@ -56,7 +54,7 @@ module _ (f : Follower) (count : ℕ) (to : List ℕ) where
           rules = k;
           done =
               below-more (λ j. getD (set to i x) j 0 ≡ placeOf (getD (f .rules) j noRule) (getD (f .positions) j 0)) i
-              (λ j q. rw (getD-set-other to i j x 0 (λ e. absurd (apart j i q e))) (p .done j q))
+              (λ j q. rw (getD-set-other to i j x 0 (ne-of-lt q)) (p .done j q))
               (rw (getD-set-same to i x 0 (omega arith), getD-any (f .rules) i noRule d (omega arith)) r);
         }
 

@@ -15,6 +15,7 @@ use Rattle.patterns.specs.Judged.{orderIn}
 use Rattle.follow.specs.State.{eventOf}
 use Rattle.follow.specs.declared.state.Event.{Event}
 use Rattle.follow.specs.declared.state.Follower.{Follower}
+use Rattle.follow.proofs.Limits.{capped-small}
 use Rattle.chain.specs.Work.{Outcome, Duty, fill, chain, onward, respond, work, workEvent}
 use Rattle.chain.specs.Duties.{rulesHeld, dutiesOf}
 use Rattle.chain.specs.Steps.{Next, next, unlessUnfit, afterResponse, stepOf, Kept, standOf, lookOf, StepRead}
@@ -24,7 +25,6 @@ use Rattle.chain.specs.declared.responses.Word.{Word}
 use Rattle.chain.specs.declared.steps.State.the-variants.{Going, Unfit}
 use Rattle.chain.specs.declared.steps.Work.{Work}
 use Rattle.chain.specs.declared.steps.Stepped.{Stepped}
-use Rattle.chain.proofs.Capped.{capped-small}
 use Rattle.chain.proofs.ReadyLaws.{begun-event}
 
 module _ {N R : Type 0} (look : List N → List (Duty N R)) where

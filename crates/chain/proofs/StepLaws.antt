@@ -10,11 +10,12 @@ use lib.ListN.{length, getD, take}
 use borrow.Author.Tests.{lt-ltb, le-ltb}
 use Rattle.lexer.proofs.Bools.{true-not-false}
 use Rattle.grammar.specs.Trees.{Response, pass, hold, send, anew}
+use Rattle.names.proofs.ColumnLaws.{getD-any}
 use Rattle.follow.specs.State.{capped, maxRules, noRule, eventOf}
 use Rattle.follow.specs.declared.rules.Rule.{Rule}
 use Rattle.follow.specs.declared.state.Event.{Event}
 use Rattle.follow.specs.declared.state.Follower.{Follower}
-use Rattle.follow.proofs.CommitLaws.{getD-any}
+use Rattle.follow.proofs.Limits.{capped-small, capped-le}
 use Rattle.chain.specs.Work.{Duty}
 use Rattle.chain.specs.Duties.{rulesHeld}
 use Rattle.chain.specs.Responses.{givenAs, optional, wordOf, madeBy, Gives, AnswerRead}
@@ -26,7 +27,6 @@ use Rattle.chain.specs.declared.steps.State.the-variants.{Going, Committ
 use Rattle.chain.specs.declared.steps.Found.{Found}
 use Rattle.chain.specs.declared.steps.Work.{Work}
 use Rattle.chain.specs.declared.steps.Stepped.{Stepped}
-use Rattle.chain.proofs.Capped.{capped-small, capped-le}
 
 module _ (w : Work) (i count : ℕ) where
   -- a response that has made what it should: the step is that of its tree

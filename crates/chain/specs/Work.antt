@@ -1,7 +1,7 @@
 -- Working an act. Document 01, "Working an act"; source document 004, section 4. An event is document 01's act.
 -- N stands for a role's name and R for a rule's: their bytes, or ids. Rules stand the last declared first.
 -- Assumes nothing.
-use mathlib.Core.Bool.{Bool, true, false, cond, _&&_}
+use mathlib.Core.Bool.{Bool, cond, _&&_}
 use mathlib.Core.List.{List, [], _∷_}
 use mathlib.Core.Option.{Option, none, some}
 use Prim.Native.Nat.{ℕ, zero, suc, _-_}

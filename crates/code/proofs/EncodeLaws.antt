@@ -1,7 +1,7 @@
 -- The loop of `encode`: what is coded, and what is left.
 -- Assumes nothing.
 use mathlib.Core.Path.{_≡_, ap, sym, _∙_}
-use mathlib.Core.Bool.{Bool, false, _||_}
+use mathlib.Core.Bool.{Bool, false, _||_, or-false}
 use mathlib.Core.List.{List, [], _∷_, _++_, append-assoc, append-nil}
 use Prim.Native.Nat.{ℕ, _+_, _<_, _≤_}
 use native.Mathlib.Numerals.{add-one}
@@ -13,7 +13,7 @@ use Rattle.lexer.proofs.TokenLaws.{last-all, last-last, last-length}
 use Rattle.code.specs.Code.{codes, anyUnheld}
 use Rattle.code.specs.Encoded.{Few, Front, Encodes}
 use Rattle.code.specs.declared.encode.Piece.the-variants.{End, Code}
-use Rattle.lexer.proofs.Bools.{or-assoc, or-false}
+use Rattle.lexer.proofs.Bools.{or-assoc}
 
 -- so many bytes of code are written, and so many bytes of text are left
 pub record Going (ns s code : List ℕ) (len left : ℕ) (unknown : Bool) : Type 0 where

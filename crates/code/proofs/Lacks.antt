@@ -1,7 +1,7 @@
 -- A name among a rule's tokens is not held where one of its tree's is not.
 -- Assumes nothing.
 use mathlib.Core.Path.{_≡_, refl, ap, sym, _∙_}
-use mathlib.Core.Bool.{Bool, false, not, _||_}
+use mathlib.Core.Bool.{Bool, false, not, _||_, or-false}
 use mathlib.Core.List.{List, [], _∷_, _++_, map}
 use Prim.Native.Nat.{ℕ, zero, suc, _+_, _≤_}
 use native.Mathlib.Omega.{arith}
@@ -15,7 +15,7 @@ use Rattle.grammar.specs.AsRead.{exact, below, Items, close, starClose, item, a
 use Rattle.grammar.specs.Spell.{spellItem, spellItems, spellSimple, spellCondition, spellTerm, spellPattern, spellStars, spellPast, spellSequence, spellFactor, spellBase, spellSlot, spellSlots, spellResponse, spellTail}
 use Rattle.grammar.specs.Valid.{ValidItem, ValidItems, ValidSimple, ValidCondition, ValidTerm, ValidPattern, ValidPast, ValidSequence, ValidFactor, ValidBase, ValidSlot, ValidSlots, ValidResponse, ValidNames}
 use Rattle.code.specs.Lines.{lacks}
-use Rattle.lexer.proofs.Bools.{or-assoc, or-false}
+use Rattle.lexer.proofs.Bools.{or-assoc}
 
 module _ (ns : List ℕ) where
   abbrev missing : List Token → Bool

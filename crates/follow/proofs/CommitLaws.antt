@@ -1,12 +1,14 @@
 -- The loop of `commit`: the rules before i have moved on, and nothing else has changed.
 -- Assumes nothing.
 use mathlib.Core.Path.{_≡_, refl, sym, _∙_}
-use mathlib.Core.List.{List, [], _∷_, map}
-use Prim.Native.Nat.{ℕ, zero, suc, _+_, _<_, _≤_}
+use mathlib.Core.List.{List, map}
+use Prim.Native.Nat.{ℕ, _+_, _<_, _≤_}
+use native.Mathlib.Nat.{ne-of-lt, ne-of-gt}
 use native.Mathlib.Omega.{arith}
 use lib.ListN.{length, set, getD, length-set, length-map}
 use lib.Seq.{getD-set-same, getD-set-other}
 use borrow.Author.Count.{below-more}
+use Rattle.names.proofs.ColumnLaws.{getD-any}
 use Rattle.follow.specs.Rules.{RuleStepped}
 use Rattle.follow.specs.State.{capped, maxRules, noRule, Committed}
 use Rattle.follow.specs.declared.rules.Rule.{Rule}
@@ -14,12 +16,6 @@ use Rattle.follow.specs.declared.state.Follower.{Follower}
 
 pub length-mapped : (X Y : Type 0) (f : X → Y) (l : List X) (n : ℕ) → length (map f l) ≡ n → length l ≡ n
 length-mapped X Y f l n e = sym (length-map l f) ∙ e
-
--- within a list, what stands past its end does not matter
-pub getD-any : {A : Type 0} (l : List A) (i : ℕ) (d d′ : A) → i < length l → getD l i d ≡ getD l i d′
-getD-any [] i d d′ h = absurd (omega arith)
-getD-any (x ∷ l) zero d d′ h = refl
-getD-any (x ∷ l) (suc i) d d′ h = getD-any l i d d′ (omega arith)
 
 pub record Going (event ps : List ℕ) (f n : Follower) (count i : ℕ) : Type 0 where
   pub small : count ≤ 32
@@ -49,9 +45,6 @@ start event ps f count b l k = record {
   left = λ j h. refl;
 }
 
-apart : (a b : ℕ) → a < b → a ≡ b → ⊥
-apart a b p e = omega arith
-
 pub onward : (event ps : List ℕ) (f n : Follower) (count i : ℕ) → Going event ps f n count i → i < count → (d : Rule) (w : ℕ)
     → RuleStepped (getD (n .rules) i d) (getD (n .positions) i 0) event ps w
     → Going event ps f (record { roles = n .roles; count = n .count; names = n .names; parents = n .parents; positions = set (n .positions) i w; rules = n .rules }) count (i + 1)
@@ -69,9 +62,9 @@ onward event ps f n count i g h d w s =
       rules = g .rules;
       done =
           below-more (λ j. RuleStepped (getD (f .rules) j noRule) (getD (f .positions) j 0) event ps (getD (set (n .positions) i w) j 0)) i
-          (λ j p. rw (getD-set-other (n .positions) i j w 0 (λ e. absurd (apart j i p e))) (g .done j p))
+          (λ j p. rw (getD-set-other (n .positions) i j w 0 (ne-of-lt p)) (g .done j p))
           (rw (getD-set-same (n .positions) i w 0 il, getD-any (f .rules) i noRule d (omega (arith, g .small, g .rules)), ← g .same-rules, ← g .left i (omega arith)) s);
-      left = λ j p. getD-set-other (n .positions) i j w 0 (λ e. absurd (apart i j (omega arith) (sym e))) ∙ g .left j (omega arith);
+      left = λ j p. getD-set-other (n .positions) i j w 0 (ne-of-gt (omega arith)) ∙ g .left j (omega arith);
     }
 
 pub finish : (event ps : List ℕ) (f n : Follower) (count i : ℕ) → ps ≡ f .parents → count ≡ capped maxRules (f .count) → Going event ps f n count i → count ≤ i → Committed f event n

@@ -5,10 +5,11 @@ use mathlib.Core.Bool.{true, false}
 use mathlib.Core.Logic.{_↔_}
 use mathlib.Core.List.{List, [], _∷_, _++_}
 use Prim.Native.Nat.{ℕ, _+_, _<_, _≤_}
+use native.Mathlib.Nat.{ne-of-lt}
 use native.Mathlib.Omega.{arith}
 use lib.ListN.{length, set, getD}
 use lib.Seq.{getD-set-same, getD-set-other}
-use borrow.Author.Tests.{lt-ltb, le-leb}
+use borrow.Author.Tests.{lt-ltb}
 use Rattle.grammar.specs.Trees.{Pattern}
 use Rattle.grammar.specs.Size.{sizePast}
 use Rattle.grammar.specs.Names.{patternNames}
@@ -28,13 +29,7 @@ use Rattle.follow.specs.declared.rules.Rule.{Rule}
 use Rattle.follow.specs.declared.state.Follower.{Follower}
 use Rattle.follow.proofs.SizeLaws.{size-meaning}
 use Rattle.follow.proofs.RightLaws.{right-agree}
-
--- below the limit nothing is cut
-capped-small : (n : ℕ) → n ≤ 32 → capped maxRules n ≡ n
-capped-small n h = rw (le-leb n 32 h) refl
-
-apart : (a b : ℕ) → a < b → a ≡ b → ⊥
-apart a b p e = omega arith
+use Rattle.follow.proofs.Limits.{capped-small}
 
 all-append : {A : Type 0} (P : A → Type 0) (l : List A) (a : A) → All P l → P a → All P (l ++ (a ∷ []))
 all-append P [] a h p = (p, tt)
@@ -44,7 +39,7 @@ all-append P (x ∷ l) a h p = (h .0, all-append P l a (h .1) p)
 pub rule-joins : (f : Follower) (rule : Rule) (t : Tree) → f .count < 32 → length (f .rules) ≡ 32 → length (f .positions) ≡ 32 → Keeps rule t → sizePast (t .past) ≤ 63
     → Follows (addRule f rule) (f .count) t []
 rule-joins f rule t h lr lp k s = record {
-  held = rw (capped-small (f .count + 1) (omega arith)) (omega arith);
+  held = rw (capped-small maxRules (f .count + 1) (omega arith)) (omega arith);
   keeps = rw (getD-set-same (f .rules) (f .count) rule noRule (omega arith)) k;
   small = s;
   events = tt;
@@ -54,14 +49,13 @@ rule-joins f rule t h lr lp k s = record {
 -- A rule that joins changes nothing for the rules before it.
 pub rule-keeps : (f : Follower) (rule : Rule) → f .count < 32 → (i : ℕ) (t : Tree) (l : List (List ℕ)) → Follows f i t l → Follows (addRule f rule) i t l
 rule-keeps f rule h i t l g =
-    let b : i < f .count = rw (capped-small (f .count) (omega arith)) at (g .held) in
-    let ne : f .count ≡ i → ⊥ = λ e. apart i (f .count) b (sym e) in
+    let b : i < f .count = rw (capped-small maxRules (f .count) (omega arith)) at (g .held) in
     record {
-      held = rw (capped-small (f .count + 1) (omega arith)) (omega arith);
-      keeps = rw (getD-set-other (f .rules) (f .count) i rule noRule (λ e. absurd (apart i (f .count) b e))) (g .keeps);
+      held = rw (capped-small maxRules (f .count + 1) (omega arith)) (omega arith);
+      keeps = rw (getD-set-other (f .rules) (f .count) i rule noRule (ne-of-lt b)) (g .keeps);
       small = g .small;
       events = g .events;
-      right = rw (getD-set-other (f .positions) (f .count) i 1 0 (λ e. absurd (apart i (f .count) b e))) (g .right);
+      right = rw (getD-set-other (f .positions) (f .count) i 1 0 (ne-of-lt b)) (g .right);
     }
 
 -- An event more: every rule followed stays followed, with the event at the end of its list.

@@ -3,7 +3,7 @@
 use mathlib.Core.Path.{_≡_, refl, ap, _∙_}
 use mathlib.Core.Bool.{true}
 use mathlib.Core.List.{List, _∷_, _++_}
-use Prim.Native.Nat.{ℕ, _+_, _≤_}
+use Prim.Native.Nat.{ℕ, _≤_}
 use lib.ListN.{length, getD, drop, replicate}
 use Rattle.grammar.specs.Trees.{Pattern, plain, bracketed, anyEvent, items, Past, only, either, Sequence, single, beside, Factor, starred, Base, pattern, nothing, group}
 use Rattle.code.specs.Trees.{codeSimple, codePattern, codePast, codeSequence, codeFactor, codeBase}

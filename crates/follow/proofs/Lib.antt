@@ -1,3 +1,4 @@
+pub mod Limits
 pub mod Heads
 pub mod StarLaws
 pub mod WalkLaws
@@ -5,6 +6,7 @@ pub mod SumsAlike
 pub mod RuleLaws
 pub mod CommitLaws
 pub mod StateLaws
+pub mod Steady
 pub mod SizeLaws
 pub mod RightLaws
 pub mod Following

@@ -1,8 +1,7 @@
 -- A past with other names finds the same: its sums are those of the past as it was, where the patterns with other names are met as theirs are.
 -- Assumes nothing.
-use mathlib.Core.Path.{_≡_, refl, sym, ap, ap₂, _∙_}
+use mathlib.Core.Path.{_≡_, refl, ap}
 use mathlib.Core.Bool.{Bool}
-use mathlib.Core.List.{List, [], _∷_, _++_}
 use Prim.Native.Nat.{ℕ, zero, suc}
 use Rattle.grammar.specs.Trees as trees
 use Rattle.grammar.specs.Trees.{Pattern, only, either, single, beside, starred, pattern, nothing, group}
@@ -10,9 +9,8 @@ use Rattle.grammar.specs.Rename.{mapPattern, mapPast, mapSequence, mapFactor, m
 use Rattle.grammar.specs.Names.{patternNames, pastNames, sequenceNames, factorNames, baseNames}
 use Rattle.patterns.specs.All.{All}
 use Rattle.patterns.proofs.MeetsLaws.{all-left, all-right}
-use Rattle.positions.specs.Past.{Past, pat, empty, seq, alt, star}
-use Rattle.positions.specs.Sums.{sums, patSums, seqSums, altSums, starSums}
-use Rattle.positions.specs.declared.sums.Sums.{Sums}
+use Rattle.positions.specs.Past.{Past, star}
+use Rattle.positions.specs.Sums.{sums, patSums, starSums}
 use Rattle.follow.specs.Meaning.{starsOn, pastMeaning, sequenceMeaning, factorMeaning, baseMeaning}
 
 module _ {M N : Type 0} (f : M → N) (P : M → Type 0) (m : ℕ) (t : Pattern M → Bool) (u : Pattern N → Bool)

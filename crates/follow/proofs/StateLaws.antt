@@ -11,13 +11,13 @@ use lib.Seq.{length-take-le}
 use borrow.Author.Tests.{lt-ltb, le-ltb, eq-eqb, ne-eqb}
 use Rattle.lexer.proofs.Bools.{or-left}
 use Rattle.names.specs.Place.{place}
+use Rattle.names.proofs.ColumnLaws.{getD-any}
 use Rattle.code.specs.declared.lines.RoleLine.{RoleLine}
 use Rattle.code.specs.declared.lines.RuleLine.{RuleLine}
 use Rattle.positions.specs.Sets.{shares}
 use Rattle.follow.specs.State.{capped, maxRoles, maxRules, noRule, roleNamed, ruleNamed, isTaken, addRole, addRule, refuse, taken, declareRole, declareRule, matchesAt}
 use Rattle.follow.specs.declared.rules.Rule.{Rule}
 use Rattle.follow.specs.declared.state.Follower.{Follower}
-use Rattle.follow.proofs.CommitLaws.{getD-any}
 
 module _ (f : Follower) (i n : ℕ) (e : n ≡ capped maxRules (f .count)) where
   pub matches-in : (d : Rule) (r : Bool) → i < n → n ≤ 32 → length (f .rules) ≡ 32 → r ≡ shares (getD (f .positions) i 0) (getD (f .rules) i d .ends) → r ≡ matchesAt f i

@@ -1,7 +1,7 @@
 -- The readers of one token: a law for each answer.
 -- Assumes nothing.
 use mathlib.Core.Path.{_≡_, refl, sym, _∙_}
-use mathlib.Core.Bool.{Bool, true, false, _||_}
+use mathlib.Core.Bool.{true, false, _||_, or-false}
 use mathlib.Core.List.{List, [], _∷_}
 use Prim.Native.Nat.{ℕ, _<_, _≤_}
 use native.Mathlib.Nat.{le-of-lt}
@@ -64,10 +64,6 @@ module _ (s : List ℕ) (b : ℕ) where
   word-none (Word k n) h f = absurd (f k n refl)
   word-none (Mark m n) h f = record { shorter = tt; answers = answer (wordIs b) (mark m ∷ tokens (last n s)) Bad (h .1) tt }
   word-none (Other o n) h f = record { shorter = tt; answers = answer (wordIs b) (other o ∷ tokens (last n s)) Bad (h .1) tt }
-
-or-false : (q : Bool) → (q || false) ≡ q
-or-false true = refl
-or-false false = refl
 
 module _ (s : List ℕ) where
   pub begins-mark : (m n : ℕ) → Next s (Mark m n) → begins (tokens s) ≡ (eqb m 60 || (eqb m 40 || eqb m 91))

@@ -1,4 +1,3 @@
-pub mod Parts
 pub mod SizeLaws
 pub mod RunLaws
 pub mod SheetLaws

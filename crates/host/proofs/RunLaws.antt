@@ -2,10 +2,10 @@
 -- Assumes nothing.
 use mathlib.Core.Path.{_≡_, refl, sym, ap, ap₂, _∙_, subst}
 use mathlib.Core.List.{List, [], _∷_, _++_, map, append-assoc, append-nil}
-use Prim.Native.Nat.{ℕ, zero, suc, _+_, _-_, _≤_, _<_}
+use Prim.Native.Nat.{ℕ, _+_, _-_, _≤_, _<_}
 use native.Mathlib.Omega.{arith}
-use lib.ListN.{length, take, drop, getD, set, length-append, length-drop}
-use lib.Seq.{length-take-le}
+use lib.ListN.{length, take, drop, getD, set, length-append, length-drop, drop-of-length-le}
+use lib.Seq.{length-take-le, drop-drop, drop-append-seam, take-append-seam, set-append-seam}
 use borrow.Rule.Slice.PartMut.{putMid}
 use Rattle.follow.specs.declared.state.Follower.{Follower}
 use Rattle.book.specs.Decide.{Call, Answer}
@@ -17,8 +17,7 @@ use Rattle.monitor.specs.Handled.{Handles}
 use Rattle.monitor.specs.Sessions.{Begun}
 use Rattle.monitor.specs.declared.calls.Handled.{Handled}
 use Rattle.host.specs.Calls.{total, callsOf, buffers, Fit, Answered, SessionRun}
-use Rattle.host.proofs.Parts.{drop-here, drop-past, drop-twice, drop-front, take-front, set-after}
-use Rattle.host.proofs.SizeLaws.{total-here, total-end}
+use Rattle.host.proofs.SizeLaws.{total-here, total-end, drop-here}
 
 abbrev pub numbersOf : List Answer → List ℕ
 numbersOf xs = map (λ (x : Answer). x .number) xs
@@ -90,7 +89,7 @@ buffers-end (x ∷ xs) a = ap (λ (r : List ℕ). x .buffer ++ r) (buffers-end x
 -- what is not answered yet is as the host lent it
 drop-lent : (s ns ws b cs : List ℕ) (f : Follower) (left told : List ℕ) (at to k : ℕ) → Progress s ns ws b cs f left told at to k → drop to left ≡ drop to b
 drop-lent s ns ws b cs f left told at to k p =
-    ap (drop to) (p .replies) ∙ subst (λ (n : ℕ). drop n (buffers (p .done) ++ drop to b) ≡ drop to b) (p .wrote) (drop-front (buffers (p .done)) (drop to b))
+    ap (drop to) (p .replies) ∙ subst (λ (n : ℕ). drop n (buffers (p .done) ++ drop to b) ≡ drop to b) (p .wrote) (drop-append-seam (buffers (p .done)) (drop to b))
 
 part-lent : (s ns ws b cs : List ℕ) (f : Follower) (left told : List ℕ) (at to k w : ℕ) → Progress s ns ws b cs f left told at to k → take w (drop to left) ≡ take w (drop to b)
 part-lent s ns ws b cs f left told at to k w p = ap (take w) (drop-lent s ns ws b cs f left told at to k p)
@@ -114,13 +113,13 @@ module _ (s ns ws b cs : List ℕ) (f : Follower) (left told : List ℕ) (at to 
   calls-here : callsOf (drop k ns) (drop k ws) (drop at s) (drop to b) ≡ call ∷ callsOf (drop (k + 1) ns) (drop (k + 1) ws) (drop (at + n) s) (drop (to + w) b)
   calls-here =
       ap₂ (λ (x z : List ℕ). callsOf x z (drop at s) (drop to b)) (drop-here k ns more) (drop-here k ws more-sizes)
-      ∙ ap₂ (λ (x z : List ℕ). call ∷ callsOf (drop (k + 1) ns) (drop (k + 1) ws) x z) (drop-twice at n s) (drop-twice to w b)
+      ∙ ap₂ (λ (x z : List ℕ). call ∷ callsOf (drop (k + 1) ns) (drop (k + 1) ws) x z) (drop-drop n at s) (drop-drop w to b)
 
   -- the lent part with its answer, between what is answered and what is not yet lent
   left-here : putMid to w left y ≡ (buffers (p .done) ++ y) ++ drop (to + w) b
   left-here =
-      let front : take to left ≡ buffers (p .done) = ap (take to) (p .replies) ∙ subst (λ (i : ℕ). take i (buffers (p .done) ++ drop to b) ≡ buffers (p .done)) (p .wrote) (take-front (buffers (p .done)) (drop to b)) in
-      let back : drop w (drop to left) ≡ drop (to + w) b = ap (drop w) (drop-lent s ns ws b cs f left told at to k p) ∙ drop-twice to w b in
+      let front : take to left ≡ buffers (p .done) = ap (take to) (p .replies) ∙ subst (λ (i : ℕ). take i (buffers (p .done) ++ drop to b) ≡ buffers (p .done)) (p .wrote) (take-append-seam (buffers (p .done)) (drop to b)) in
+      let back : drop w (drop to left) ≡ drop (to + w) b = ap (drop w) (drop-lent s ns ws b cs f left told at to k p) ∙ drop-drop w to b in
       ap₂ (λ (u v : List ℕ). u ++ (y ++ v)) front back ∙ sym (append-assoc (buffers (p .done)) y (drop (to + w) b))
 
   told-here : set told k (r .number) ≡ (numbersOf (p .done) ++ (r .number ∷ [])) ++ drop (k + 1) cs
@@ -128,7 +127,7 @@ module _ (s ns ws b cs : List ℕ) (f : Follower) (left told : List ℕ) (at to 
       let more-numbers : k < length cs = omega (arith, p .fit .numbers) in
       let e : told ≡ numbersOf (p .done) ++ (getD cs k 0 ∷ drop (k + 1) cs) = p .numbers ∙ ap (λ (v : List ℕ). numbersOf (p .done) ++ v) (drop-here k cs more-numbers) in
       ap (λ (l : List ℕ). set l k (r .number)) e
-      ∙ subst (λ (i : ℕ). set (numbersOf (p .done) ++ (getD cs k 0 ∷ drop (k + 1) cs)) i (r .number) ≡ numbersOf (p .done) ++ (r .number ∷ drop (k + 1) cs)) (p .counted) (set-after (numbersOf (p .done)) (getD cs k 0) (r .number) (drop (k + 1) cs))
+      ∙ subst (λ (i : ℕ). set (numbersOf (p .done) ++ (getD cs k 0 ∷ drop (k + 1) cs)) i (r .number) ≡ numbersOf (p .done) ++ (r .number ∷ drop (k + 1) cs)) (p .counted) (set-append-seam (numbersOf (p .done)) (getD cs k 0) (drop (k + 1) cs) (r .number))
       ∙ sym (append-assoc (numbersOf (p .done)) (r .number ∷ []) (drop (k + 1) cs))
 
   -- one call more
@@ -178,11 +177,11 @@ called s ns ws b cs f left told at to k p more n w y r en ew h sized =
 -- all calls are worked
 pub finished : (s ns ws b cs : List ℕ) (f : Follower) (left told : List ℕ) (at to k : ℕ) → Progress s ns ws b cs f left told at to k → length ns ≤ k → Answered s ns ws b left told
 finished s ns ws b cs f left told at to k p end =
-    let over : callsOf (drop k ns) (drop k ws) (drop at s) (drop to b) ≡ [] = ap (λ (l : List ℕ). callsOf l (drop k ws) (drop at s) (drop to b)) (drop-past k ns end) in
+    let over : callsOf (drop k ns) (drop k ws) (drop at s) (drop to b) ≡ [] = ap (λ (l : List ℕ). callsOf l (drop k ws) (drop at s) (drop to b)) (drop-of-length-le ns end) in
     let all : answers trackStep freshTracked (callsOf ns ws s b) ≡ p .done = p .answered ∙ ap (λ (l : List Call). p .done ++ answers trackStep (p .machine) l) over ∙ append-nil (p .done) in
     let book = sym (sym (whole-session (callsOf ns ws s b)) ∙ all) in
-    let spent : drop to b ≡ [] = drop-past to b (omega (arith, p .room, total-end k ws (omega (arith, p .fit .sizes, end)))) in
-    let told-all : drop k cs ≡ [] = drop-past k cs (omega (arith, p .fit .numbers, end)) in
+    let spent : drop to b ≡ [] = drop-of-length-le b {i = to} (omega (arith, p .room, total-end k ws (omega (arith, p .fit .sizes, end)))) in
+    let told-all : drop k cs ≡ [] = drop-of-length-le cs {i = k} (omega (arith, p .fit .numbers, end)) in
     record {
       numbers = p .numbers ∙ ap (λ (l : List ℕ). numbersOf (p .done) ++ l) told-all ∙ append-nil (numbersOf (p .done)) ∙ ap numbersOf book;
       replies = p .replies ∙ ap (λ (l : List ℕ). buffers (p .done) ++ l) spent ∙ append-nil (buffers (p .done)) ∙ ap buffers book;

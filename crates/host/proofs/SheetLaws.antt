@@ -1,12 +1,11 @@
 -- The monitor that a sheet leaves.
 -- Assumes nothing.
 use mathlib.Core.Path.{_≡_, refl, sym, ap, _∙_, subst}
-use mathlib.Core.Bool.{cond, true, false}
-use mathlib.Core.List.{List, [], _∷_, map}
+use mathlib.Core.List.{List, map}
 use Prim.Native.Nat.{ℕ, zero, suc, _+_, _-_, _*_, _/_, _%_, _≤_, _<_}
 use native.Mathlib.Omega.{arith}
-use lib.Dec.{eqb}
 use lib.ListN.{length, take, drop}
+use lib.Seq.{drop-drop}
 use borrow.Author.Tests.{eq-eqb, ne-eqb}
 use Rattle.follow.specs.declared.state.Follower.{Follower}
 use Rattle.book.specs.Tracked.{Tracked, freshTracked, trackStep, tracked}
@@ -14,11 +13,10 @@ use Rattle.book.specs.Session.{left}
 use Rattle.book.proofs.Whole.{whole-state}
 use Rattle.monitor.specs.Represents.{Represents}
 use Rattle.monitor.specs.Sessions.{Begun}
-use Rattle.judge.specs.Judge.{recordsOf, judgeOf}
+use Rattle.judge.specs.Judge.{recordsOf}
 use Rattle.judge.specs.Judging.{Judged}
 use Rattle.judge.specs.declared.hearing.Verdict.{Verdict}
 use Rattle.host.specs.Sheets.{callOf, bookOf, answerNumber, sheetJudged, Heard, After}
-use Rattle.host.proofs.Parts.{drop-twice}
 
 -- the machine that n records of a sheet leave
 abbrev leaves : Tracked → ℕ → List ℕ → Tracked
@@ -55,7 +53,7 @@ heard-more sheet f g at p whole h = go (p .more) (p .fits) (p .short) (p .leads)
           more = m;
           fits = omega (arith, fits);
           short = omega (arith, short);
-          leads = ap (λ (l : List ℕ). leaves (trackStep (p .machine) (callOf (take 128 (drop at sheet))) .0) m l) (sym (drop-twice at 128 sheet)) ∙ leads;
+          leads = ap (λ (l : List ℕ). leaves (trackStep (p .machine) (callOf (take 128 (drop at sheet))) .0) m l) (sym (drop-drop 128 at sheet)) ∙ leads;
         }
 
 -- less than a record is left

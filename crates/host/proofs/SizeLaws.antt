@@ -1,21 +1,26 @@
 -- Sizes that add up to a length, taken off one by one.
 -- Assumes nothing.
-use mathlib.Core.Path.{_≡_, refl, sym, ap, _∙_}
+use mathlib.Core.Path.{_≡_, sym, ap, _∙_}
 use mathlib.Core.Bool.{Bool, true, false, not}
-use mathlib.Core.List.{List, [], _∷_}
+use mathlib.Core.List.{List, _∷_}
 use Prim.Native.Nat.{ℕ, zero, suc, _+_, _-_, _≤_, _<_}
+use native.Mathlib.Numerals.{add-one}
 use native.Mathlib.Omega.{arith}
 use lib.Dec.{eqb}
-use lib.ListN.{length, drop, getD}
+use lib.ListN.{length, drop, getD, drop-of-length-le}
+use lib.Seq.{drop-cons}
 use borrow.Author.Tests.{eqb-true, eqb-false, eq-eqb, ne-eqb, not-true, not-false}
 use Rattle.host.specs.Calls.{total}
-use Rattle.host.proofs.Parts.{drop-here, drop-past}
+
+-- the element at k, and those after it
+pub drop-here : (k : ℕ) (l : List ℕ) → k < length l → drop k l ≡ getD l k 0 ∷ drop (k + 1) l
+drop-here k l h = rw add-one (drop-cons l k 0 h)
 
 pub total-here : (k : ℕ) (l : List ℕ) → k < length l → total (drop k l) ≡ getD l k 0 + total (drop (k + 1) l)
 total-here k l h = ap total (drop-here k l h)
 
 pub total-end : (k : ℕ) (l : List ℕ) → length l ≤ k → total (drop k l) ≡ 0
-total-end k l h = ap total (drop-past k l h)
+total-end k l h = ap total (drop-of-length-le l h)
 
 -- less is left than the next size
 pub too-short : (l : List ℕ) (k left n len : ℕ) → k < length l → total l + left ≡ len + total (drop k l) → n ≡ getD l k 0 → left < n → false ≡ eqb (total l) len

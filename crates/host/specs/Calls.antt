@@ -1,10 +1,8 @@
 -- A session as a host hands it over: the calls' records and reply buffers one after the other in two buffers, with the sizes beside them.
 -- Assumes nothing.
 use mathlib.Core.Path.{_≡_}
-use mathlib.Core.Bool.{Bool, true, false, _&&_}
 use mathlib.Core.List.{List, [], _∷_, _++_, map}
 use Prim.Native.Nat.{ℕ, _+_}
-use lib.Dec.{eqb}
 use lib.ListN.{length, take, drop}
 use Rattle.book.specs.Decide.{Call, Answer}
 use Rattle.book.specs.Book.{freshBook, bookStep}

@@ -1,9 +1,8 @@
 -- The judge over a sheet, as a host hands it over.
 -- Assumes nothing.
-use mathlib.Core.Path.{_≡_}
 use mathlib.Core.Bool.{cond}
-use mathlib.Core.List.{List, [], _∷_, map}
-use Prim.Native.Nat.{ℕ, zero, suc, _*_, _+_, _/_, _%_}
+use mathlib.Core.List.{List, map}
+use Prim.Native.Nat.{ℕ, _*_, _/_, _%_}
 use lib.Dec.{eqb}
 use lib.ListN.{length, replicate}
 use Rattle.follow.specs.declared.state.Follower.{Follower}

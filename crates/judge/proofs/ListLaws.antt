@@ -5,7 +5,7 @@ use mathlib.Core.Bool.{true, false}
 use mathlib.Core.List.{List, [], _∷_, _++_, map}
 use mathlib.Core.Logic.{⊎-elim}
 use mathlib.Core.Option.{none, some}
-use Prim.Native.Nat.{ℕ, zero, suc, _+_, _-_, _*_, _/_, _%_, _≤_, _<_}
+use Prim.Native.Nat.{ℕ, zero, suc, _-_, _*_, _/_, _%_, _≤_, _<_}
 use native.Mathlib.Omega.{arith}
 use lib.ListN.{length, take, drop, getD, length-drop}
 use borrow.Author.Tests.{eq-eqb, ne-eqb, le-leb, lt-leb}
@@ -22,6 +22,7 @@ use Rattle.follow.specs.Rules.{RuleStepped}
 use Rattle.follow.specs.State.{capped, maxRules, noRule, eventOf}
 use Rattle.follow.specs.declared.rules.Rule as kept
 use Rattle.follow.specs.declared.state.Follower.{Follower}
+use Rattle.follow.proofs.Limits.{capped-small}
 use Rattle.book.specs.Names.{Event, Rule}
 use Rattle.book.specs.Tracked.{Followed, Tracked, startNumber, endNumber, numberAfter, stepNumber}
 use Rattle.book.proofs.Numbers.{number-end, number-decides}
@@ -136,7 +137,7 @@ part-long s h k = rw (eq-eqb (length s % 128) 0 h, lt-leb (length s) 32768 k) re
 
 module _ (f : Follower) (i : ℕ) (s : List ℕ) where
   held-is : (t : Tracked) → Represents f t → capped maxRules (f .count) ≡ f .count
-  held-is t rep = rw (le-leb (f .count) 32 (rep .few)) refl
+  held-is t rep = capped-small maxRules (f .count) (rep .few)
 
   -- 9
   pub judged-none : (n : ℕ) → n ≡ capped maxRules (f .count) → n ≤ i → Judged f i s NoRule

@@ -34,10 +34,6 @@ pub or-assoc : (a b c : Bool) → (a || (b || c)) ≡ (a || b || c)
 or-assoc true b c = refl
 or-assoc false b c = refl
 
-pub or-false : (a : Bool) → (a || false) ≡ a
-or-false true = refl
-or-false false = refl
-
 pub or-none : (a b : Bool) → b ≡ false → (a || b) ≡ a
 or-none true b e = refl
 or-none false b e = e

@@ -11,6 +11,11 @@ use lib.ListN.{length, take, drop, getD, length-drop}
 use lib.Seq.{take-all}
 use Rattle.lexer.specs.Run.{run, after}
 
+-- a list of no length is empty
+pub no-length : (l : List ℕ) → length l ≡ 0 → l ≡ []
+no-length [] e = refl
+no-length (b ∷ l) e = absurd (omega arith)
+
 module _ (p : ℕ → Bool) where
   -- a byte that passes makes the run one longer
   pub run-more : (s : List ℕ) (i : ℕ) → i < length s → p (getD s i 0) ≡ true → length (run p (drop i s)) ≡ suc (length (run p (drop (suc i) s)))

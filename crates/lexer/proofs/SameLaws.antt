@@ -1,6 +1,6 @@
 -- Laws of the comparison of two lists, byte after byte.
 -- Assumes nothing.
-use mathlib.Core.Path.{_≡_, refl, ap}
+use mathlib.Core.Path.{_≡_, refl, ap, _∙_}
 use mathlib.Core.Bool.{Bool, true, false, _&&_}
 use mathlib.Core.List.{List, [], _∷_}
 use Prim.Native.Nat.{ℕ, zero, suc, _+_, _<_, _≤_}
@@ -10,6 +10,11 @@ use lib.Dec.{eqb}
 use lib.ListN.{length, drop, getD, drop-of-length-le}
 use borrow.Author.Tests.{eq-eqb, ne-eqb}
 use Rattle.lexer.specs.Words.{same}
+
+pub same-refl : (a : List ℕ) → same a a ≡ true
+unfolding same
+same-refl [] = refl
+same-refl (x ∷ a) = ap (λ (q : Bool). q && same a a) (eq-eqb x x refl) ∙ same-refl a
 
 pub same-more : (a k : List ℕ) (i : ℕ) → i < length a → i < length k → getD a i 0 ≡ getD k i 0 → same (drop i a) (drop i k) ≡ same (drop (suc i) a) (drop (suc i) k)
 unfolding same

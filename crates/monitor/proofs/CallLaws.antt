@@ -2,11 +2,11 @@
 -- Assumes nothing.
 use mathlib.Core.Path.{_≡_, refl, sym, ap, _∙_}
 use mathlib.Core.Bool.{Bool, true, cond}
-use mathlib.Core.List.{List, [], _∷_}
-use Prim.Native.Nat.{ℕ, zero, suc, _≤_}
+use mathlib.Core.List.{List, []}
+use Prim.Native.Nat.{ℕ, _≤_}
 use native.Mathlib.Omega.{arith}
 use lib.Dec.{eqb}
-use lib.ListN.{length, take, drop}
+use lib.ListN.{length, drop, length-take}
 use borrow.Author.Tests.{eq-eqb, ne-eqb}
 use Rattle.reply.specs.Reply.{replyBytes, spaced}
 use Rattle.reply.specs.Writing.{Written}
@@ -23,14 +23,9 @@ use Rattle.monitor.specs.declared.answers.Answered.{Answered}
 use Rattle.monitor.specs.declared.calls.Handled.{Handled}
 use Rattle.monitor.proofs.AnswerLaws.{dash-is, refused-answers, unchanged-refused}
 
-take-small : (n : ℕ) (l : List ℕ) → length (take n l) ≤ n
-take-small zero l = omega arith
-take-small (suc n) [] = omega arith
-take-small (suc n) (a ∷ l) = let h = take-small n l in omega arith
-
 pub text-small : (s : List ℕ) → length (textOf s) ≤ 126
 unfolding textOf
-text-small s = take-small 126 (drop 1 s)
+text-small s = let h = length-take 126 (drop 1 s) in omega arith
 
 module _ (f : Follower) (s : List ℕ) (r : Answered) where
   pub record-line : frameOf s ≡ Line → LineAnswered f (textOf s) r → RecordAnswered f s r

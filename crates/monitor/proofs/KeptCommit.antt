@@ -5,7 +5,6 @@ use mathlib.Core.List.{List, [], _∷_, map}
 use Prim.Native.Nat.{ℕ, zero, suc, _≤_, _<_}
 use native.Mathlib.Omega.{arith}
 use lib.ListN.{getD}
-use borrow.Author.Tests.{le-leb}
 use Rattle.lexer.specs.Words.{same}
 use Rattle.grammar.specs.Trees as trees
 use Rattle.grammar.specs.Rename.{mapPattern}
@@ -20,9 +19,9 @@ use Rattle.positions.specs.Sums.{sums, stepOf}
 use Rattle.follow.specs.Meaning.{pastMeaning}
 use Rattle.follow.specs.Rules.{RuleStepped}
 use Rattle.follow.specs.State.{capped, maxRules, noRule, Committed}
-use Rattle.follow.specs.declared.rules.Rule as kept
 use Rattle.follow.specs.declared.state.Follower.{Follower}
 use Rattle.follow.proofs.MeaningMap.{sums-map}
+use Rattle.follow.proofs.Limits.{capped-small}
 use Rattle.book.specs.Names.{Name, Roles as NamedRoles}
 use Rattle.book.specs.Tracked.{Tracked, Followed, stepNumber, moveOn}
 use Rattle.monitor.specs.Represents.{nameAt, Naming, RuleIs, Rules, rules-none, rules-more, Represents}
@@ -48,7 +47,7 @@ module _ (f : Follower) (t : Tracked) (rep : Represents f t) (e : List ℕ) (es 
 module _ (f g : Follower) (t : Tracked) (rep : Represents f t) (e : List ℕ) (es : All (λ i. i < f .roles) e) (c : Committed f e g) where
   stepped : (i : ℕ) (r : Followed) → i < f .count → (x : RuleIs f i r) → getD (g .positions) i 0 ≡ stepNumber (t .roles) (r .rule .past) (r .positions) (map (nameAt f) e)
   stepped i r k x =
-      let held : i < capped maxRules (f .count) = rw (le-leb (f .count) 32 (rep .few)) k in
+      let held : i < capped maxRules (f .count) = rw (capped-small maxRules (f .count) (rep .few)) k in
       step-same f t rep e es i r x (getD (f .positions) i 0) (getD (g .positions) i 0) (c .positions i held)
       ∙ ap (λ (m : ℕ). stepNumber (t .roles) (r .rule .past) m (map (nameAt f) e)) (x .positions)
 

@@ -2,9 +2,10 @@
 -- Assumes nothing.
 use mathlib.Core.Path.{_≡_, refl, sym, ap, ap₂, _∙_, subst}
 use mathlib.Core.Bool.{Bool, true, false}
-use mathlib.Core.Logic.{_⊎_, ⊎-elim}
+use mathlib.Core.Logic.{⊎-elim}
 use mathlib.Core.List.{List, [], _∷_}
 use Prim.Native.Nat.{ℕ, zero, suc, _+_, _<_}
+use native.Mathlib.Numerals.{add-one}
 use native.Mathlib.Omega.{arith}
 use lib.Dec.{eqb}
 use lib.ListN.{getD, length-set}
@@ -13,6 +14,7 @@ use borrow.Author.Tests.{eq-eqb, ne-eqb}
 use Rattle.lexer.specs.Words.{same}
 use Rattle.lexer.proofs.Bools.{true-not-false}
 use Rattle.lexer.proofs.KindLaws.{same-true}
+use Rattle.lexer.proofs.SameLaws.{same-refl}
 use Rattle.grammar.specs.Names.{ruleNames, pastNames, patternNames}
 use Rattle.names.specs.Name.{packed}
 use Rattle.names.specs.Unpacked.{unpacked}
@@ -28,8 +30,8 @@ use Rattle.follow.specs.declared.state.Follower.{Follower}
 use Rattle.book.specs.Names.{Name}
 use Rattle.book.specs.Tracked.{Tracked, Followed}
 use Rattle.monitor.specs.Represents.{nameAt, NameWord, Sized, Naming, RuleIs, Rules, rules-none, rules-more, Represents}
-use Rattle.monitor.proofs.Lists.{all-more, plus-one}
-use Rattle.monitor.proofs.Naming.{both-ways, same-refl, held-up}
+use Rattle.monitor.proofs.Lists.{all-more}
+use Rattle.monitor.proofs.Naming.{both-ways, held-up}
 
 -- tables that agree on the first n
 roles-agree : (nm mm : ℕ → Name) (ps qs : List ℕ) (n : ℕ) → ((i : ℕ) → i < n → nm i ≡ mm i) → ((i : ℕ) → i < n → getD ps i 0 ≡ getD qs i 0) → ((i : ℕ) → i < n → nm (getD ps i 0) ≡ mm (getD ps i 0))
@@ -140,7 +142,7 @@ module _ (f : Follower) (z : Sized f) (t : Tracked) (rep : Represents f t) (w : 
       let rest : t .roles ≡ rolesOf (nameAt after) (after .parents) (f .roles) =
       rep .roles
       ∙ roles-agree (nameAt f) (nameAt after) (f .parents) (after .parents) (f .roles) (λ i k. sym (old i k)) (λ i k. sym (old-parent i k)) (λ i k. sym (old (getD (f .parents) i 0) (before i k))) in
-      (λ j. record { name = first j; parent = second j } ∷ rest j) ∙ ap (λ (x : ℕ). rolesOf (nameAt after) (after .parents) x) (sym (plus-one (f .roles)))
+      (λ j. record { name = first j; parent = second j } ∷ rest j) ∙ ap (λ (x : ℕ). rolesOf (nameAt after) (after .parents) x) (sym (add-one (f .roles)))
 
   rule-kept : (i : ℕ) (r : Followed) → RuleIs f i r → RuleIs after i r
   unfolding ruleNames

@@ -3,6 +3,7 @@
 use mathlib.Core.Path.{_≡_, sym, ap, _∙_, subst}
 use mathlib.Core.List.{List, [], _∷_}
 use Prim.Native.Nat.{ℕ, zero, suc, _≤_, _<_}
+use native.Mathlib.Numerals.{add-one}
 use native.Mathlib.Omega.{arith}
 use lib.ListN.{getD}
 use lib.Seq.{getD-set-same, getD-set-other}
@@ -20,7 +21,6 @@ use Rattle.chain.specs.Duties.{Short}
 use Rattle.book.specs.Names.{Rule}
 use Rattle.book.specs.Tracked.{Tracked, Followed}
 use Rattle.monitor.specs.Represents.{nameAt, NameWord, Sized, Naming, RuleIs, Rules, rules-none, rules-more, Represents}
-use Rattle.monitor.proofs.Lists.{plus-one}
 
 module _ (f : Follower) (z : Sized f) (t : Tracked) (rep : Represents f t) (rule : kept.Rule) (tree : Tree) (keeps : Keeps rule tree)
     (ids : All (λ k. k < f .roles) (ruleNames (tree .past) (tree .trigger) (tree .response))) (short : Short (tree .response)) (small : sizePast (tree .past) ≤ limit)
@@ -90,6 +90,6 @@ module _ (f : Follower) (z : Sized f) (t : Tracked) (rep : Represents f t) (rule
         few = omega arith;
         roles = rep .roles;
         rules =
-            subst (λ (k : ℕ). Rules after k (record { rule = r; positions = 1 } ∷ t .rules)) (sym (plus-one (f .count)))
+            subst (λ (k : ℕ). Rules after k (record { rule = r; positions = 1 } ∷ t .rules)) (sym (add-one (f .count)))
             (rules-more first (rules-kept (f .count) (t .rules) (omega arith) (rep .rules)));
       }

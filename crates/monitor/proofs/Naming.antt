@@ -2,17 +2,18 @@
 -- Assumes nothing.
 use mathlib.Core.Path.{_≡_, refl, sym, ap, _∙_}
 use mathlib.Core.Bool.{Bool, true, false}
-use mathlib.Core.Logic.{_⊎_, ⊎-elim}
-use mathlib.Core.List.{List, [], _∷_}
+use mathlib.Core.Logic.{⊎-elim}
+use mathlib.Core.List.{List}
 use Prim.Native.Nat.{ℕ, zero, suc, _<_}
 use native.Mathlib.Omega.{arith}
 use lib.Dec.{ltb}
 use lib.ListN.{length, take, getD}
 use lib.Seq.{length-take-le, getD-take}
-use borrow.Author.Tests.{lt-ltb, ltb-true, ltb-false, le-leb, eq-eqb}
+use borrow.Author.Tests.{lt-ltb, ltb-true, ltb-false}
 use Rattle.lexer.specs.Words.{same}
 use Rattle.lexer.proofs.Bools.{or-left, or-right, or-cases, true-not-false}
 use Rattle.lexer.proofs.KindLaws.{same-true}
+use Rattle.lexer.proofs.SameLaws.{same-refl}
 use Rattle.names.specs.Name.{packed}
 use Rattle.names.specs.Place.{place, held}
 use Rattle.names.proofs.NameLaws.{name-same}
@@ -22,13 +23,9 @@ use Rattle.patterns.specs.Roles.{isHeld}
 use Rattle.patterns.specs.Table.{rolesOf}
 use Rattle.follow.specs.State.{capped, maxRoles}
 use Rattle.follow.specs.declared.state.Follower.{Follower}
+use Rattle.follow.proofs.Limits.{capped-small}
 use Rattle.book.specs.Names.{Name}
 use Rattle.monitor.specs.Represents.{nameAt, NameWord, Sized, Naming}
-
-pub same-refl : (a : Name) → same a a ≡ true
-unfolding same
-same-refl [] = refl
-same-refl (x ∷ a) = rw (eq-eqb x x refl) (same-refl a)
 
 -- two tests that hold together are the same
 pub both-ways : (a b : Bool) → (a ≡ true → b ≡ true) → (b ≡ true → a ≡ true) → a ≡ b
@@ -46,7 +43,7 @@ module _ (f : Follower) (z : Sized f) (n : Naming f) where
   table = take (capped maxRoles (f .roles)) (f .names)
 
   pub roles-capped : capped maxRoles (f .roles) ≡ f .roles
-  roles-capped = rw (le-leb (f .roles) 64 (n .few)) refl
+  roles-capped = capped-small maxRoles (f .roles) (n .few)
 
   pub table-is : table ≡ take (f .roles) (f .names)
   table-is = ap (λ (k : ℕ). take k (f .names)) roles-capped

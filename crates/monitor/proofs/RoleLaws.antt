@@ -1,7 +1,7 @@
 -- A role line's answer is the machine's.
 -- Assumes nothing.
 use mathlib.Core.Path.{_≡_, refl, sym, ap, _∙_, subst}
-use mathlib.Core.Bool.{Bool, true, false, not, cond, _||_}
+use mathlib.Core.Bool.{Bool, true, false, not, _||_}
 use mathlib.Core.List.{List, map}
 use mathlib.Core.Option.{some}
 use Prim.Native.Nat.{ℕ, _<_}
@@ -17,8 +17,9 @@ use Rattle.names.specs.Place.{place}
 use Rattle.code.specs.Lines.{RoleRead}
 use Rattle.code.specs.declared.lines.RoleLine.{RoleLine}
 use Rattle.patterns.specs.Roles.{isHeld}
-use Rattle.follow.specs.State.{capped, maxRoles, isTaken, addRole, refuse, taken, declareRole}
+use Rattle.follow.specs.State.{capped, maxRoles, isTaken, addRole, declareRole}
 use Rattle.follow.specs.declared.state.Follower.{Follower}
+use Rattle.follow.proofs.Steady.{role-steady}
 use Rattle.book.specs.Names.{Name}
 use Rattle.book.specs.Decide.{isFree, decideLine, answer}
 use Rattle.book.specs.Tracked.{Tracked, trackDuty}
@@ -31,17 +32,6 @@ use Rattle.monitor.proofs.SaidNames.{said-names}
 use Rattle.monitor.proofs.Taken.{taken-is, held-is, roles-length}
 use Rattle.monitor.proofs.KeptRole.{kept-role}
 use Rattle.monitor.proofs.AnswerLaws.{refusing, taking, finished-unchanged}
-
-role-steady : (f : Follower) (l : RoleLine) → (declareRole f l .number ≡ 0 → ⊥) → declareRole f l .follower ≡ f
-unfolding declareRole
-role-steady f l = go (isTaken f (l .name)) (ltb (l .parent) (capped maxRoles (f .roles))) (ltb (f .roles) maxRoles)
-  where
-    go : (a b c : Bool) → ((cond a (refuse f 5) (cond b (cond c (taken (addRole f (l .name) (l .parent))) (refuse f 8)) (refuse f 6))) .number ≡ 0 → ⊥)
-        → (cond a (refuse f 5) (cond b (cond c (taken (addRole f (l .name) (l .parent))) (refuse f 8)) (refuse f 6))) .follower ≡ f
-    go true b c h = refl
-    go false false c h = refl
-    go false true false h = refl
-    go false true true h = absurd (h refl)
 
 -- a name that is free is no role's
 free-held : (a b : Bool) → not (a || b) ≡ true → a ≡ false

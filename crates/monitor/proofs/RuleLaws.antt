@@ -1,7 +1,7 @@
 -- A rule line's answer is the machine's.
 -- Assumes nothing.
 use mathlib.Core.Path.{_≡_, refl, sym, ap, _∙_, subst}
-use mathlib.Core.Bool.{Bool, true, false, not, cond}
+use mathlib.Core.Bool.{Bool, true, false, not}
 use mathlib.Core.List.{List, map}
 use mathlib.Core.Option.{some}
 use Prim.Native.Nat.{ℕ, _≤_, _<_}
@@ -27,12 +27,12 @@ use Rattle.patterns.proofs.MeetsLaws.{all-left, all-right}
 use Rattle.patterns.proofs.RenameNames.{all-join, past-all, pattern-all, response-all}
 use Rattle.patterns.proofs.RenameBack.{past-back, pattern-back, response-back}
 use Rattle.follow.specs.Rules.{Tree}
-use Rattle.follow.specs.State.{capped, maxRoles, maxRules, isTaken, addRule, refuse, taken, declareRule, RuleDeclared}
-use Rattle.follow.specs.declared.rules.Rule as kept
+use Rattle.follow.specs.State.{capped, maxRoles, maxRules, isTaken, addRule, declareRule, RuleDeclared}
 use Rattle.follow.specs.declared.state.Follower.{Follower}
 use Rattle.follow.specs.declared.declare.Declared.{Declared}
+use Rattle.follow.proofs.Steady.{rule-steady}
 use Rattle.chain.proofs.ShortLaws.{valid-short}
-use Rattle.book.specs.Names.{Name, Rule}
+use Rattle.book.specs.Names.{Name}
 use Rattle.book.specs.Decide.{newRule, isFree, decideLine, answer}
 use Rattle.book.specs.Tracked.{Tracked, trackDuty, trackNext}
 use Rattle.monitor.specs.Represents.{nameAt, NameWord, Sized, Represents}
@@ -49,18 +49,6 @@ use Rattle.monitor.proofs.AnswerLaws.{refusing, taking, finished-unchan
 valid-response : (w : Name) (p : Past) (q : Pattern) (x : Response) → ValidLine (rule w p q x) → ValidResponse x
 unfolding ValidLine
 valid-response w p q x h = h .1 .1 .1
-
-rule-steady : (f : Follower) (l : RuleLine) (r : kept.Rule) → (declareRule f l r .number ≡ 0 → ⊥) → declareRule f l r .follower ≡ f
-unfolding declareRule
-rule-steady f l r = go (isTaken f (l .name)) (l .body .unknown) (l .fits) (ltb (f .count) maxRules)
-  where
-    go : (a b c d : Bool) → ((cond a (refuse f 5) (cond b (refuse f 6) (cond c (cond d (taken (addRule f r)) (refuse f 8)) (refuse f 7)))) .number ≡ 0 → ⊥)
-        → (cond a (refuse f 5) (cond b (refuse f 6) (cond c (cond d (taken (addRule f r)) (refuse f 8)) (refuse f 7)))) .follower ≡ f
-    go true b c d h = refl
-    go false true c d h = refl
-    go false false false d h = refl
-    go false false true false h = refl
-    go false false true true h = absurd (h refl)
 
 module _ (f : Follower) (z : Sized f) (s : List ℕ) (l : RuleLine) (read : RuleRead (take (capped maxRoles (f .roles)) (f .names)) s l) (c : Declared) (made : RuleDeclared f l c) where
   module _ (t : Tracked) (rep : Represents f t) (fits : length s ≤ 126) (w : Name) (p : Past) (q : Pattern) (x : Response) (says : Says s (rule w p q x)) where

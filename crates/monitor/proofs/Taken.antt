@@ -6,10 +6,11 @@ use mathlib.Core.List.{List, [], _∷_, map}
 use Prim.Native.Nat.{ℕ, zero, suc, _<_}
 use lib.Dec.{eqb}
 use lib.ListN.{length, getD}
-use borrow.Author.Tests.{eq-eqb, eqb-true, le-leb}
+use borrow.Author.Tests.{eq-eqb, eqb-true}
 use Rattle.lexer.specs.Words.{same}
 use Rattle.lexer.proofs.Bools.{and-left, and-right, not-not}
 use Rattle.lexer.proofs.KindLaws.{same-true}
+use Rattle.lexer.proofs.SameLaws.{same-refl}
 use Rattle.names.specs.Name.{packed}
 use Rattle.names.specs.Place.{held}
 use Rattle.code.specs.Code.{idOf}
@@ -19,12 +20,13 @@ use Rattle.patterns.specs.Roles.{isHeld, allHeld}
 use Rattle.patterns.specs.Table.{rolesOf}
 use Rattle.follow.specs.State.{capped, maxRules, noRule, ruleNamed, roleNamed, isTaken}
 use Rattle.follow.specs.declared.state.Follower.{Follower}
+use Rattle.follow.proofs.Limits.{capped-small}
 use Rattle.book.specs.Names.{Name, Roles}
 use Rattle.book.specs.Decide.{isRule, isFree}
 use Rattle.book.specs.Tracked.{Tracked, Followed, trackDuty}
 use Rattle.monitor.specs.Represents.{nameAt, NameWord, Sized, Naming, Rules, rules-none, rules-more, Represents}
 use Rattle.monitor.proofs.Naming as naming
-use Rattle.monitor.proofs.Naming.{both-ways, same-refl, word-same}
+use Rattle.monitor.proofs.Naming.{both-ways, word-same}
 
 roles-long : (nm : ℕ → Name) (ps : List ℕ) (n : ℕ) → length (rolesOf nm ps n) ≡ n
 roles-long nm ps zero = refl
@@ -53,7 +55,7 @@ module _ (f : Follower) (z : Sized f) (t : Tracked) (rep : Represents f t) where
   rules-length = rules-long (f .count) (t .rules) (rep .rules)
 
   pub count-capped : capped maxRules (f .count) ≡ f .count
-  count-capped = rw (le-leb (f .count) 32 (rep .few)) refl
+  count-capped = capped-small maxRules (f .count) (rep .few)
 
   pub held-is : (w : Name) → NameWord w → held table w ≡ isHeld same (t .roles) w
   held-is w a = naming.held-is f z n w a ∙ ap (λ (rs : Roles). isHeld same rs w) (sym (rep .roles))

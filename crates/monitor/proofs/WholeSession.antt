@@ -8,6 +8,7 @@ use lib.Dec.{eqb}
 use lib.ListN.{length, getD}
 use Rattle.lexer.specs.Class.{classOf, wordy}
 use Rattle.lexer.specs.Words.{same, nameLike, digitKind, kindOf}
+use Rattle.lexer.proofs.SameLaws.{same-refl}
 use Rattle.names.specs.Name.{packed}
 use Rattle.names.specs.Unpacked.{unpacked}
 use Rattle.names.proofs.UnpackedLaws.{unpacked-name}
@@ -21,7 +22,6 @@ use Rattle.book.specs.Session.{answers, left, run-end, run-call}
 use Rattle.book.proofs.Whole.{whole-session, whole-state}
 use Rattle.monitor.specs.Represents.{nameAt, NameWord, Naming, Rules, rules-none, Represents}
 use Rattle.monitor.specs.Sessions.{Begun, Session}
-use Rattle.monitor.proofs.Naming.{same-refl}
 
 top-word : NameWord topW
 unfolding kindOf same nameLike digitKind wordy classOf

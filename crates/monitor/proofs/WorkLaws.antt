@@ -8,7 +8,7 @@ use native.Mathlib.Omega.{arith}
 use mathlib.Core.Logic.{⊎-elim}
 use lib.Dec.{eqb, ltb}
 use lib.ListN.{getD}
-use borrow.Author.Tests.{eq-eqb, ne-eqb, eqb-true, eqb-false, lt-ltb, le-leb}
+use borrow.Author.Tests.{eq-eqb, ne-eqb, eqb-true, eqb-false, lt-ltb}
 use Rattle.lexer.specs.Words.{same}
 use Rattle.grammar.specs.Trees as trees
 use Rattle.grammar.specs.Rename.{mapPattern, mapResponse}
@@ -24,9 +24,10 @@ use Rattle.patterns.proofs.TableNames.{split, below-same}
 use Rattle.positions.specs.Sets.{shares}
 use Rattle.positions.specs.Sums.{endsOf}
 use Rattle.follow.specs.Rules.{Tree, Keeps}
-use Rattle.follow.specs.State.{noRule, matchesAt}
+use Rattle.follow.specs.State.{noRule, matchesAt, maxRules}
 use Rattle.follow.specs.declared.state.Follower.{Follower}
 use Rattle.follow.proofs.MeaningMap.{sums-map}
+use Rattle.follow.proofs.Limits.{capped-small}
 use Rattle.chain.specs.Work as work
 use Rattle.chain.specs.Work.{Duty, committed, held, unfit, tooLong, workEvent}
 use Rattle.chain.specs.Duties.{Short, rulesHeld, KeepsAll, dutyOf, dutiesOf}
@@ -95,7 +96,7 @@ module _ (f : Follower) (t : Tracked) (rep : Represents f t) where
   all-fit = fits f ruleTrees (f .count) (t .rules) (rep .rules) (λ i m. refl)
 
   held-is : rulesHeld f ≡ f .count
-  held-is = rw (le-leb (f .count) 32 (rep .few)) refl
+  held-is = capped-small maxRules (f .count) (rep .few)
 
   pub keeps-all : KeepsAll f ruleTrees
   keeps-all =

@@ -1,11 +1,11 @@
--- One function for a whole condition and for one term of it: each answer as the one or the other.
+-- One function for a whole condition, and for one term of it or a pattern: each answer as the one or the other.
 -- Assumes nothing.
 use mathlib.Core.Path.{_≡_}
 use mathlib.Core.Bool.{Bool, true, false}
 use mathlib.Core.List.{List}
 use Prim.Native.Nat.{ℕ}
-use native.Mathlib.Omega.{arith}
-use Rattle.patterns.specs.Judged.{TermRead, ConditionRead, JudgeRead}
+use Rattle.lexer.proofs.Bools.{true-not-false}
+use Rattle.patterns.specs.Judged.{TermRead, ConditionRead, PatternRead, JudgeRead}
 use Rattle.patterns.specs.declared.judge.Judged.{Judged}
 
 -- the second part of what falls
@@ -13,12 +13,9 @@ abbrev pub level : Bool → ℕ
 level true = 1
 level false = 0
 
-clash : (b : Bool) → b ≡ true → b ≡ false → ⊥
-clash b p q = let n : _≡_ {A = ℕ} 0 1 = cc in omega arith
-
 module _ (ps event code : List ℕ) (at : ℕ) (whole : Bool) (r : Judged) where
   pub as-condition : whole ≡ true → ConditionRead ps event code at r → JudgeRead ps event code at whole r
-  as-condition e h = record { onwards = h .onwards; one = λ q. absurd (clash whole e q); all = λ q. h }
+  as-condition e h = record { onwards = h .onwards; one = λ q. absurd (true-not-false whole e q); pattern = λ q. absurd (true-not-false whole e q); all = λ q. h }
 
-  pub as-term : whole ≡ false → TermRead ps event code at r → JudgeRead ps event code at whole r
-  as-term e h = record { onwards = h .onwards; one = λ q. h; all = λ q. absurd (clash whole q e) }
+  pub as-term : whole ≡ false → TermRead ps event code at r → PatternRead ps event code at r → JudgeRead ps event code at whole r
+  as-term e h g = record { onwards = h .onwards; one = λ q. h; pattern = λ q. g; all = λ q. absurd (true-not-false whole q e) }

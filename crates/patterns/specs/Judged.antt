@@ -49,14 +49,15 @@ pub record ConditionRead (ps event code : List ℕ) (at : ℕ) (r : Judged) : Ty
   pub right : (c : Condition ℕ) (rest : List ℕ) → Ended rest → drop at code ≡ codeCondition c ++ rest
       → (r .ok ≡ conditionMeets (orderIn ps) event c) × (r .end ≡ at + length (codeCondition c))
 
--- a whole condition, or one term of it
-pub record JudgeRead (ps event code : List ℕ) (at : ℕ) (whole : Bool) (r : Judged) : Type 0 where
-  pub onwards : at ≤ r .end
-  pub one : whole ≡ false → TermRead ps event code at r
-  pub all : whole ≡ true → ConditionRead ps event code at r
-
 pub record PatternRead (ps event code : List ℕ) (at : ℕ) (r : Judged) : Type 0 where
   pub onwards : at ≤ r .end
   pub moves : at < length code → at < r .end
   pub right : (p : Pattern ℕ) (rest : List ℕ) → drop at code ≡ codePattern p ++ rest
       → (r .ok ≡ meets (orderIn ps) event p) × (r .end ≡ at + length (codePattern p))
+
+-- a whole condition, or one term of it, or a pattern
+pub record JudgeRead (ps event code : List ℕ) (at : ℕ) (whole : Bool) (r : Judged) : Type 0 where
+  pub onwards : at ≤ r .end
+  pub one : whole ≡ false → TermRead ps event code at r
+  pub pattern : whole ≡ false → PatternRead ps event code at r
+  pub all : whole ≡ true → ConditionRead ps event code at r

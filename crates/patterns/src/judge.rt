@@ -147,31 +147,9 @@ fn judge(code: &[u8], at: usize, whole: bool, event: &[u8], parents: &[u8]) -> J
     }
 }
 
-// A pattern from at on: any, a simple pattern, or a condition in square brackets.
+// A pattern from at on: any, a simple pattern, or a condition in square brackets. It is read as a term is: which bracket stands there is not asked.
 pub fn pattern(code: &[u8], at: usize, event: &[u8], parents: &[u8]) -> Judged
     ensures { λ r. ⌜ PatternRead (now (parents .entry)) (now (event .entry)) (now (code .entry)) at r ⌝ }
 {
-    if at >= code.len() {
-        return Judged { end: at, ok: false };
-    }
-    let b = code[at];
-    let next = at + 1;
-    if b == b'a' {
-        return Judged {
-            end: next,
-            ok: true,
-        };
-    }
-    if b == b'<' {
-        return items(code, next, event, 0, parents);
-    }
-    let r = judge(code, next, true, event, parents);
-    let e = r.end;
-    if e >= code.len() {
-        return Judged { end: e, ok: false };
-    }
-    Judged {
-        end: e + 1,
-        ok: r.ok,
-    }
+    judge(code, at, false, event, parents)
 }

@@ -135,8 +135,9 @@ module _ {P : Type 0} where
   swap-pat allow-pat allow-pat [] j y (c ∷ x′) y′ d d′ = absurd (no-end x′ j y′ (cons-tail d′))
   swap-pat allow-pat allow-pat (b ∷ x) j y x′ y′ d d′ = absurd (no-end x j y (cons-tail d))
 
-  swap-empty : {i : ℕ} {u : List ℕ} → Allows {P = P} empty i u → (x : List ℕ) (j : ℕ) (y : List ℕ) → u ≡ x ++ j ∷ y → ⊥
-  swap-empty allow-empty x j y d = no-end x j y d
+  -- the empty past allows no list with a number in it
+  pub empty-none : {i : ℕ} {u : List ℕ} → Allows {P = P} empty i u → (x : List ℕ) (j : ℕ) (y : List ℕ) → u ≡ x ++ j ∷ y → ⊥
+  empty-none allow-empty x j y d = no-end x j y d
 
   swap-seq : {φ ψ : Past P} {i : ℕ} → Swaps φ i → Swaps ψ (i + size φ) → Swaps (seq φ ψ) i
   swap-seq f g x j y x′ y′ h h′ =
@@ -177,7 +178,7 @@ module _ {P : Type 0} where
 
   pub swap : (φ : Past P) (i : ℕ) → Swaps φ i
   swap (pat p) i x j y x′ y′ h h′ = swap-pat h h′ x j y x′ y′ refl refl
-  swap empty i x j y x′ y′ h h′ = absurd (swap-empty h x j y refl)
+  swap empty i x j y x′ y′ h h′ = absurd (empty-none h x j y refl)
   swap (seq φ ψ) i x j y x′ y′ h h′ = swap-seq (swap φ i) (swap ψ (i + size φ)) x j y x′ y′ h h′
   swap (alt φ ψ) i x j y x′ y′ h h′ = swap-alt (swap φ i) (swap ψ (i + size φ)) x j y x′ y′ h h′
   swap (star φ) i x j y x′ y′ h h′ = swap-star (swap φ i) h x j y x′ y′ refl h′

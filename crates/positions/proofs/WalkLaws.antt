@@ -14,7 +14,7 @@ use Rattle.positions.specs.Positions.{Positions}
 use Rattle.positions.specs.Walk.{Summary, onPat, onEmpty, onSeq, onAlt, onStar, walk}
 use Rattle.positions.proofs.Bools.{and-both, and-left, and-right, or-left, or-right, or-cases}
 use Rattle.positions.proofs.Lists.{no-end, cons-head, cons-tail, nil-cut}
-use Rattle.positions.proofs.Allowed.{Within, seq-cut, within-at, within-second, allow-once, first-seq, first-star, begins-seq-left, begins-seq-right, last-seq, last-star, ends-seq-left, ends-seq-right, before-seq, before-star, before-seq-left, before-seq-right, before-seq-cut, before-star-again}
+use Rattle.positions.proofs.Allowed.{Within, seq-cut, within-at, within-second, allow-once, first-seq, first-star, begins-seq-left, begins-seq-right, last-seq, last-star, ends-seq-left, ends-seq-right, before-seq, before-star, before-seq-left, before-seq-right, before-seq-cut, before-star-again, empty-none}
 
 -- some position held may end the part
 abbrev pub Ended : {P : Type 0} → Positions → Past P → ℕ → Type 0
@@ -47,7 +47,7 @@ module _ {P : Type 0} (t : P → Bool) where
     pub moved-iff : (k : ℕ) → (s .moved k ≡ true) ↔ (Reached m φ i k × (metAt t φ i k ≡ true))
     pub last-iff : (k : ℕ) → (s .last k ≡ true) ↔ Ends φ i k
 
--- the lists that a pattern allows, and those that the empty past allows
+-- the lists that a pattern allows
 module _ {P : Type 0} where
   pat-number : {p : P} {i : ℕ} {u : List ℕ} → Allows (pat p) i u → (w : List ℕ) (k : ℕ) (v : List ℕ) → u ≡ w ++ k ∷ v → k ≡ suc i
   pat-number allow-pat [] k v d = sym (cons-head d)
@@ -56,9 +56,6 @@ module _ {P : Type 0} where
   pat-one : {p : P} {i : ℕ} {u : List ℕ} → Allows (pat p) i u → (w : List ℕ) (j k : ℕ) (v : List ℕ) → u ≡ w ++ j ∷ (k ∷ v) → ⊥
   pat-one allow-pat [] j k v d = no-end [] k v (cons-tail d)
   pat-one allow-pat (b ∷ w) j k v d = no-end w j (k ∷ v) (cons-tail d)
-
-  empty-none : {i : ℕ} {u : List ℕ} → Allows {P = P} empty i u → (w : List ℕ) (k : ℕ) (v : List ℕ) → u ≡ w ++ k ∷ v → ⊥
-  empty-none allow-empty w k v d = no-end w k v d
 
 -- The rules of the summary are right, part by part.
 module _ {P : Type 0} (t : P → Bool) (m : Positions) where

@@ -3,36 +3,21 @@
 use mathlib.Core.Path.{_≡_, refl, ap, sym, _∙_}
 use mathlib.Core.Bool.{Bool, cond, not}
 use mathlib.Core.List.{List, [], _∷_, _++_, append-assoc, append-nil, map}
-use Prim.Native.Nat.{ℕ, zero, suc, _+_, _-_, _*_, _<_, _≤_, zero-le}
+use Prim.Native.Nat.{ℕ, suc, _+_, _-_, _*_, _<_, _≤_, zero-le}
 use native.Mathlib.Numerals.{add-one}
 use native.Mathlib.Omega.{arith}
 use lib.ListN.{length, take, drop, getD, length-append}
 use lib.Seq.{take-suc, drop-cons, take-all}
 use borrow.Author.Tests.{eq-eqb, ne-eqb}
 use Rattle.lexer.specs.Run.{run}
-use Rattle.lexer.proofs.RunLaws.{run-stop, run-end}
+use Rattle.lexer.proofs.RunLaws.{run-stop, run-end, no-length}
 use Rattle.names.specs.Name.{columnAt}
 use Rattle.names.specs.Unpacked.{inked, columnsOf, unpacked}
-use Rattle.names.proofs.UnpackedLaws.{unpacked-length}
+use Rattle.names.proofs.UnpackedLaws.{unpacked-length, column-among}
 use Rattle.reply.specs.Reply.{spaced}
 use Rattle.reply.specs.Writing.{Adds, moreOf}
 use Rattle.reply.specs.declared.lines.Line.{Line}
 use Rattle.reply.proofs.LineLaws.{adds-none, adds-then, adds-same}
-
-no-length : (l : List ℕ) → length l ≡ 0 → l ≡ []
-no-length [] e = refl
-no-length (x ∷ l) e = absurd (omega arith)
-
-column-among : (n i : ℕ) → i < 8 → getD (columnsOf n) i 0 ≡ columnAt n i
-column-among n zero h = refl
-column-among n (suc zero) h = refl
-column-among n (suc (suc zero)) h = refl
-column-among n (suc (suc (suc zero))) h = refl
-column-among n (suc (suc (suc (suc zero)))) h = refl
-column-among n (suc (suc (suc (suc (suc zero))))) h = refl
-column-among n (suc (suc (suc (suc (suc (suc zero)))))) h = refl
-column-among n (suc (suc (suc (suc (suc (suc (suc zero))))))) h = refl
-column-among n (suc (suc (suc (suc (suc (suc (suc (suc i)))))))) h = absurd (omega arith)
 
 -- the first i columns of a name are added to l, and none of them is a space
 pub record Writing (n to : ℕ) (l r : Line) (i : ℕ) : Type 0 where

@@ -6,7 +6,6 @@ use mathlib.Core.List.{List, map}
 use mathlib.Core.Option.{Option, none, some}
 use Prim.Native.Nat.{ℕ, _≤_, _<_}
 use lib.ListN.{length, take}
-use borrow.Author.Tests.{le-leb}
 use Rattle.lexer.proofs.Bools.{true-not-false}
 use Rattle.grammar.specs.AsRead.{Line, role, rule, event}
 use Rattle.grammar.specs.Lines.{Says, readEvent, isSome}
@@ -18,6 +17,7 @@ use Rattle.patterns.specs.All.{All}
 use Rattle.follow.specs.State.{capped, maxRoles, eventOf, Committed}
 use Rattle.follow.specs.declared.state.Event.{Event}
 use Rattle.follow.specs.declared.state.Follower.{Follower}
+use Rattle.follow.proofs.Limits.{capped-small}
 use Rattle.viewer.specs.Film.{Film, decideLine}
 use Rattle.viewer.specs.Stands.{Sized, Stands}
 use Rattle.viewer.specs.Answers.{refusedWith, Answers, Unchanged, EventTaken, EventTextTaken, ActTaken}
@@ -42,8 +42,7 @@ module _ (f : Follower) (z : Sized f) (s : List ℕ) (l : EventLine) (read : Eve
 
     event-is : eventOf lineEvent ≡ map (idOf (m .names)) ws
     event-is =
-        let e : capped 4 (l .len) ≡ l .len = rw (le-leb (l .len) 4 (read .small)) refl in
-        ap (λ (k : ℕ). take k (l .roles)) e ∙ told .roles
+        ap (λ (k : ℕ). take k (l .roles)) (capped-small 4 (l .len) (read .small)) ∙ told .roles
 
     event-known : l .unknown ≡ false → (r : Answer) → EventTaken f lineEvent r → Answers m (decideLine m (some (event ws))) r
     unfolding decideLine

@@ -3,6 +3,7 @@
 use mathlib.Core.Path.{_≡_, refl, sym, ap, _∙_, subst}
 use mathlib.Core.List.{List, [], _∷_, _++_, map}
 use Prim.Native.Nat.{ℕ, zero, suc, _+_, _<_, _≤_}
+use native.Mathlib.Numerals.{add-one}
 use native.Mathlib.Omega.{arith}
 use lib.ListN.{length, take, set, getD}
 use lib.Seq.{take-suc-set, getD-set-same, getD-set-other}
@@ -16,12 +17,9 @@ use Rattle.follow.proofs.Following.{rule-joins, rule-keeps, event-follows, role
 use Rattle.viewer.specs.Film.{Watched, Film, withRole, withRule, withEvent, seeing}
 use Rattle.viewer.specs.Stands.{Sized, Rules, rules-none, rules-more, Stands}
 
-plus-one : (n : ℕ) → n + 1 ≡ suc n
-plus-one n = omega arith
-
 -- one entry more in a table of n
 entry : (l k : List ℕ) (n a : ℕ) → n < length l → k ≡ take n l → k ++ (a ∷ []) ≡ take (n + 1) (set l n a)
-entry l k n a h e = ap (λ (x : List ℕ). x ++ (a ∷ [])) e ∙ sym (take-suc-set l n a h) ∙ ap (λ (x : ℕ). take x (set l n a)) (sym (plus-one n))
+entry l k n a h e = ap (λ (x : List ℕ). x ++ (a ∷ [])) e ∙ sym (take-suc-set l n a h) ∙ ap (λ (x : ℕ). take x (set l n a)) (sym (add-one n))
 
 module _ (f : Follower) (z : Sized f) (m : Film) (st : Stands f m) where
   module _ (name parent : ℕ) (room : f .roles < maxRoles) where
@@ -63,7 +61,7 @@ module _ (f : Follower) (z : Sized f) (m : Film) (st : Stands f m) where
           names = st .names;
           parents = st .parents;
           rules =
-              subst (λ (k : ℕ). Rules (addRule f rule) k (withRule m (rule .name) (t .past) .rules)) (sym (plus-one (f .count)))
+              subst (λ (k : ℕ). Rules (addRule f rule) k (withRule m (rule .name) (t .past) .rules)) (sym (add-one (f .count)))
               (rules-more
               (record { tree = t; named = ap (λ (y : Rule). y .name) e; past = refl; follows = rule-joins f rule t room (z .rules) (z .positions) keeps small })
               (rule-each (f .count) (m .rules) (omega arith) (st .rules)));

@@ -7,15 +7,16 @@ use mathlib.Core.Logic.{_↔_}
 use Prim.Native.Nat.{ℕ, zero, suc, _+_, _-_, _≤_}
 use native.Mathlib.Omega.{arith}
 use lib.ListN.{length}
-use borrow.Author.Tests.{le-leb, le-ltb}
+use borrow.Author.Tests.{le-ltb}
 use Rattle.patterns.specs.Meets.{meets}
 use Rattle.patterns.specs.Judged.{orderIn}
 use Rattle.positions.specs.Sets.{hasAt}
 use Rattle.positions.specs.Matcher.{matches}
 use Rattle.positions.proofs.Matching.{matches-iff}
 use Rattle.follow.specs.Meaning.{pastMeaning}
-use Rattle.follow.specs.State.{capped, maxRules, matchesAt}
+use Rattle.follow.specs.State.{maxRules, matchesAt}
 use Rattle.follow.specs.declared.state.Follower.{Follower}
+use Rattle.follow.proofs.Limits.{capped-small}
 use Rattle.viewer.specs.Film.{Watched, Film, freshFilm, decide, next, Tells}
 use Rattle.viewer.specs.Stands.{Rules, rules-none, rules-more, Stands}
 use Rattle.viewer.specs.Views.{Begun, Views}
@@ -53,8 +54,7 @@ module _ (f : Follower) (m : Film) (st : Stands f m) (bits : ℕ) (each : (i : �
   past-count : (i : ℕ) → f .count ≤ i → hasAt bits i ≡ false
   unfolding matchesAt
   past-count i h =
-      let c : capped maxRules (f .count) ≡ f .count = rw (le-leb (f .count) 32 (st .most)) refl in
-      each i ∙ rw (c, le-ltb i (f .count) h) refl
+      each i ∙ rw (capped-small maxRules (f .count) (st .most), le-ltb i (f .count) h) refl
 
   all-listed : Tells (m .parents) bits (m .rules) → listed (f .rules) bits 32 ≡ matchedIn (m .parents) (m .rules)
   all-listed t =

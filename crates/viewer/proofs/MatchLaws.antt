@@ -1,7 +1,7 @@
 -- The loop of `matching`: the rules before i are in the set where their pasts match, and no other is.
 -- Assumes nothing.
 use mathlib.Core.Path.{_≡_, refl, sym, ap, ap₂, _∙_}
-use mathlib.Core.Bool.{Bool, true, false, cond, _&&_, _||_}
+use mathlib.Core.Bool.{Bool, true, false, cond, _&&_, _||_, and-true}
 use Prim.Native.Nat.{ℕ, _+_, _<_, _≤_}
 use native.Mathlib.Omega.{arith}
 use lib.Dec.{eqb, leb, ltb}
@@ -24,10 +24,6 @@ or-none : (x y : Bool) → (x || y && false) ≡ x
 or-none true y = refl
 or-none false true = refl
 or-none false false = refl
-
-and-true : (x : Bool) → (x && true) ≡ x
-and-true true = refl
-and-true false = refl
 
 -- a number below i + 1 is below i, or i
 one-more : (f : Follower) (i j : ℕ) → (ltb j i && matchesAt f j || matchesAt f i && eqb j i) ≡ ltb j (i + 1) && matchesAt f j

@@ -1,7 +1,7 @@
 -- What becomes of a role line is what the film says.
 -- Assumes nothing.
 use mathlib.Core.Path.{_≡_, refl, sym, ap, _∙_}
-use mathlib.Core.Bool.{Bool, true, false, cond}
+use mathlib.Core.Bool.{Bool, true, false}
 use mathlib.Core.List.{List}
 use mathlib.Core.Option.{some}
 use Prim.Native.Nat.{ℕ}
@@ -15,8 +15,9 @@ use Rattle.names.specs.Place.{place, held}
 use Rattle.code.specs.Lines.{RoleRead}
 use Rattle.code.specs.declared.lines.RoleLine.{RoleLine}
 use Rattle.follow.specs.State as follow
-use Rattle.follow.specs.State.{capped, maxRoles, addRole, refuse, taken, declareRole}
+use Rattle.follow.specs.State.{capped, maxRoles, addRole, declareRole}
 use Rattle.follow.specs.declared.state.Follower.{Follower}
+use Rattle.follow.proofs.Steady.{role-steady}
 use Rattle.viewer.specs.Film.{Film, isTaken, withRole, decideLine}
 use Rattle.viewer.specs.Stands.{Sized, Stands}
 use Rattle.viewer.specs.Answers.{finished, Answers, RoleTaken}
@@ -24,17 +25,6 @@ use Rattle.viewer.specs.declared.answers.Answer.{Answer}
 use Rattle.viewer.proofs.Standing.{roles-capped, table-is, names-long, taken-is}
 use Rattle.viewer.proofs.Kept.{kept-role}
 use Rattle.viewer.proofs.AnswerLaws.{refusing, taking, finished-unchanged}
-
-role-steady : (f : Follower) (l : RoleLine) → (declareRole f l .number ≡ 0 → ⊥) → declareRole f l .follower ≡ f
-unfolding declareRole
-role-steady f l = go (follow.isTaken f (l .name)) (ltb (l .parent) (capped maxRoles (f .roles))) (ltb (f .roles) maxRoles)
-  where
-    go : (a b c : Bool) → ((cond a (refuse f 5) (cond b (cond c (taken (addRole f (l .name) (l .parent))) (refuse f 8)) (refuse f 6))) .number ≡ 0 → ⊥)
-        → (cond a (refuse f 5) (cond b (cond c (taken (addRole f (l .name) (l .parent))) (refuse f 8)) (refuse f 6))) .follower ≡ f
-    go true b c h = refl
-    go false false c h = refl
-    go false true false h = refl
-    go false true true h = absurd (h refl)
 
 module _ (f : Follower) (z : Sized f) (s : List ℕ) (l : RoleLine) (read : RoleRead (take (capped maxRoles (f .roles)) (f .names)) s l) where
   module _ (m : Film) (st : Stands f m) (w p : List ℕ) (says : Says s (role w p)) where

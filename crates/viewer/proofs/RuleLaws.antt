@@ -1,7 +1,7 @@
 -- What becomes of a rule line is what the film says.
 -- Assumes nothing.
 use mathlib.Core.Path.{_≡_, refl, sym, ap, _∙_, subst}
-use mathlib.Core.Bool.{Bool, true, false, cond}
+use mathlib.Core.Bool.{Bool, true, false}
 use mathlib.Core.List.{List}
 use mathlib.Core.Option.{some}
 use Prim.Native.Nat.{ℕ, _≤_}
@@ -22,10 +22,10 @@ use Rattle.code.specs.Lines.{lacks, RuleTold, RuleRead}
 use Rattle.code.specs.declared.lines.RuleLine.{RuleLine}
 use Rattle.follow.specs.Rules.{Tree}
 use Rattle.follow.specs.State as follow
-use Rattle.follow.specs.State.{capped, maxRoles, maxRules, addRule, refuse, taken, declareRule, RuleDeclared}
-use Rattle.follow.specs.declared.rules.Rule as kept
+use Rattle.follow.specs.State.{capped, maxRoles, maxRules, addRule, declareRule, RuleDeclared}
 use Rattle.follow.specs.declared.state.Follower.{Follower}
 use Rattle.follow.specs.declared.declare.Declared.{Declared}
+use Rattle.follow.proofs.Steady.{rule-steady}
 use Rattle.viewer.specs.Film.{Film, isTaken, withRule, decideLine}
 use Rattle.viewer.specs.Stands.{Sized, Stands}
 use Rattle.viewer.specs.Answers.{finished, Answers, RuleTaken}
@@ -33,18 +33,6 @@ use Rattle.viewer.specs.declared.answers.Answer.{Answer}
 use Rattle.viewer.proofs.Standing.{table-is, names-few, rules-long, taken-is}
 use Rattle.viewer.proofs.Kept.{kept-rule}
 use Rattle.viewer.proofs.AnswerLaws.{refusing, taking, finished-unchanged}
-
-rule-steady : (f : Follower) (l : RuleLine) (r : kept.Rule) → (declareRule f l r .number ≡ 0 → ⊥) → declareRule f l r .follower ≡ f
-unfolding declareRule
-rule-steady f l r = go (follow.isTaken f (l .name)) (l .body .unknown) (l .fits) (ltb (f .count) maxRules)
-  where
-    go : (a b c d : Bool) → ((cond a (refuse f 5) (cond b (refuse f 6) (cond c (cond d (taken (addRule f r)) (refuse f 8)) (refuse f 7)))) .number ≡ 0 → ⊥)
-        → (cond a (refuse f 5) (cond b (refuse f 6) (cond c (cond d (taken (addRule f r)) (refuse f 8)) (refuse f 7)))) .follower ≡ f
-    go true b c d h = refl
-    go false true c d h = refl
-    go false false false d h = refl
-    go false false true false h = refl
-    go false false true true h = absurd (h refl)
 
 module _ (f : Follower) (z : Sized f) (s : List ℕ) (l : RuleLine) (read : RuleRead (take (capped maxRoles (f .roles)) (f .names)) s l) (c : Declared) (made : RuleDeclared f l c) where
   module _ (m : Film) (st : Stands f m) (fits : length s ≤ 126) (w : List ℕ) (p : Past) (q : Pattern) (x : Response) (says : Says s (rule w p q x)) where

@@ -8,7 +8,7 @@ use native.Mathlib.Omega.{arith}
 use lib.Dec.{eqb}
 use lib.ListN.{length, take}
 use lib.Seq.{length-take-le}
-use borrow.Author.Tests.{le-leb, ltb-true}
+use borrow.Author.Tests.{ltb-true}
 use Rattle.lexer.proofs.Bools.{true-not-false}
 use Rattle.names.specs.Name.{packed}
 use Rattle.names.specs.Place.{place, held}
@@ -19,6 +19,7 @@ use Rattle.patterns.specs.All.{All}
 use Rattle.follow.specs.State as follow
 use Rattle.follow.specs.State.{capped, maxRoles, maxRules, roleNamed, ruleNamed}
 use Rattle.follow.specs.declared.state.Follower.{Follower}
+use Rattle.follow.proofs.Limits.{capped-small}
 use Rattle.viewer.specs.Film.{Watched, Film, isRule, isTaken}
 use Rattle.viewer.specs.Stands.{Sized, Rules, rules-none, rules-more, Stands}
 
@@ -45,7 +46,7 @@ ids-held ns (w ∷ ws) e = go (held ns w) refl e (ids-held ns ws)
 
 module _ (f : Follower) (z : Sized f) (m : Film) (st : Stands f m) where
   pub roles-capped : capped maxRoles (f .roles) ≡ f .roles
-  roles-capped = rw (le-leb (f .roles) 64 (st .few)) refl
+  roles-capped = capped-small maxRoles (f .roles) (st .few)
 
   pub table-is : take (capped maxRoles (f .roles)) (f .names) ≡ m .names
   table-is = ap (λ (k : ℕ). take k (f .names)) roles-capped ∙ sym (st .names)
@@ -63,5 +64,4 @@ module _ (f : Follower) (z : Sized f) (m : Film) (st : Stands f m) where
   pub taken-is : (w : List ℕ) → follow.isTaken f (packed w) ≡ isTaken m w
   unfolding follow.isTaken roleNamed
   taken-is w =
-      let c : capped maxRules (f .count) ≡ f .count = rw (le-leb (f .count) 32 (st .most)) refl in
-      rw (table-is, c, rules-named f (packed w) (f .count) (m .rules) (st .rules)) refl
+      rw (table-is, capped-small maxRules (f .count) (st .most), rules-named f (packed w) (f .count) (m .rules) (st .rules)) refl

@@ -11,13 +11,13 @@ use lib.Seq.{take-suc, drop-cons, take-suc-set}
 use borrow.Author.Tests.{eq-eqb, ne-eqb}
 use Rattle.names.specs.Name.{columnAt}
 use Rattle.lexer.specs.Run.{run}
-use Rattle.lexer.proofs.RunLaws.{run-stop, run-end}
+use Rattle.lexer.proofs.RunLaws.{run-stop, run-end, no-length}
 use Rattle.names.specs.Unpacked.{inked, columnsOf, unpacked}
-use Rattle.names.proofs.UnpackedLaws.{unpacked-length}
+use Rattle.names.proofs.UnpackedLaws.{unpacked-length, column-among}
+use Rattle.names.proofs.ColumnLaws.{getD-any}
 use Rattle.positions.specs.Sets.{hasAt}
 use Rattle.follow.specs.State.{noRule}
 use Rattle.follow.specs.declared.rules.Rule.{Rule}
-use Rattle.follow.proofs.CommitLaws.{getD-any}
 use Rattle.viewer.specs.Lines.{namedIf, orDash, lineWith, listed, textOf, Adds, Starts, Written}
 use Rattle.viewer.specs.declared.shown.Shown.{Shown}
 use Rattle.viewer.specs.declared.view.Viewed.{Viewed}
@@ -46,21 +46,6 @@ adds-put s b l h = record { right = λ k. (refl, rw add-one (take-suc-set (s .by
 
 pub adds-full : (s r : Shown) (b : ℕ) → 320 ≤ s .len → Adds s (b ∷ []) r
 adds-full s r b h = record { right = λ k. absurd (omega arith) }
-
-no-length : (l : List ℕ) → length l ≡ 0 → l ≡ []
-no-length [] e = refl
-no-length (x ∷ l) e = absurd (omega arith)
-
-column-among : (n i : ℕ) → i < 8 → getD (columnsOf n) i 0 ≡ columnAt n i
-column-among n zero h = refl
-column-among n (suc zero) h = refl
-column-among n (suc (suc zero)) h = refl
-column-among n (suc (suc (suc zero))) h = refl
-column-among n (suc (suc (suc (suc zero)))) h = refl
-column-among n (suc (suc (suc (suc (suc zero))))) h = refl
-column-among n (suc (suc (suc (suc (suc (suc zero)))))) h = refl
-column-among n (suc (suc (suc (suc (suc (suc (suc zero))))))) h = refl
-column-among n (suc (suc (suc (suc (suc (suc (suc (suc i)))))))) h = absurd (omega arith)
 
 one-more : (n i b : ℕ) → i < 8 → b ≡ columnAt n i → take (i + 1) (columnsOf n) ≡ take i (columnsOf n) ++ (b ∷ [])
 one-more n i b h e = rw add-one (take-suc (columnsOf n) i 0 h ∙ ap (λ (x : ℕ). take i (columnsOf n) ++ (x ∷ [])) (column-among n i h ∙ sym e))

@@ -1,6 +1,5 @@
 -- `stand_session` runs the calls where the sizes fit, and otherwise turns them away with nothing written.
 -- Assumes nothing.
-use mathlib.Core.Path.{_≡_, sym}
 use borrow.Author.Needs.{needs}
 use Rattle.host.proofs.SizeLaws.{told-short, told-fit}
 use Rattle.host.proofs.RunLaws.{turned-away, worked}

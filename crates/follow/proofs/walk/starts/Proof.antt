@@ -1,8 +1,8 @@
 -- `starts` meets its contract: a test for each byte that begins a base.
 -- Assumes nothing.
 use mathlib.Core.Path.{refl}
+use mathlib.Core.Bool.{or-false}
 use lib.Dec.{eqb}
-use Rattle.lexer.proofs.Bools.{or-false}
 use borrow.Author.Tests.{eq-eqb, ne-eqb}
 use Rattle.follow.proofs.walk.starts.Statement.{statement}
 use Rattle.follow.proofs.walk.starts.Tie as tie

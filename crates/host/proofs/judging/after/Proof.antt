@@ -2,7 +2,6 @@
 -- Assumes nothing.
 use Prim.Native.Nat.{_≤_, _-_}
 use borrow.Author.Needs.{needs}
-use native.Mathlib.Omega.{arith}
 use lib.ListN.{length}
 use Rattle.host.proofs.SheetLaws.{HeardTo, heard-none, heard-more, heard-all}
 use Rattle.host.proofs.judging.after.Statement.{statement}

@@ -1,10 +1,9 @@
 -- `run` answers every call as the book does: `Progress` holds before each. The measure is the calls left.
 -- Assumes nothing.
-use mathlib.Core.Path.{_≡_, refl, sym, ap, _∙_, subst}
-use Prim.Native.Nat.{ℕ, _+_, _≤_, _<_, _-_}
+use Prim.Native.Nat.{_≤_, _-_}
 use borrow.Author.Needs.{needs}
 use native.Mathlib.Omega.{arith}
-use lib.ListN.{length, drop}
+use lib.ListN.{length}
 use Rattle.host.proofs.RunLaws.{Progress, begun, record-ends, part-ends, size-there, same-room, same-places, called, finished}
 use Rattle.host.proofs.sessions.run.Statement.{statement}
 use Rattle.host.proofs.sessions.run.Tie as tie

@@ -1,4 +1,3 @@
-use Prim.Native.Nat.{_-_}
 use Rattle.lexer.specs.Words.{digitKind}
 use borrow.Author.Tests.{lt-leb, le-leb, eq-eqb, ne-eqb}
 use borrow.Author.Needs.{needs}

@@ -1,4 +1,3 @@
-use Prim.Native.Nat.{_-_}
 use native.Mathlib.Omega.{arith}
 use Rattle.lexer.specs.Class.{spacey}
 use Rattle.lexer.proofs.RunLaws.{run-length, after-part}

@@ -1,5 +1,4 @@
 use mathlib.Core.Path.{sym}
-use Prim.Native.Nat.{_-_}
 use native.Mathlib.Omega.{arith}
 use Rattle.lexer.specs.Class.{wordy}
 use lib.Seq.{length-take-le}

@@ -1,9 +1,10 @@
--- `judge` meets its contract: a law of TermLaws for each way out. What falls is the code left, and then whole.
+-- `judge` meets its contract: a law of TermLaws, and one of PatternLaws, for each way out. What falls is the code left, and then whole.
 -- Assumes nothing.
 use mathlib.Core.Path.{refl, ap}
 use Prim.Native.Nat.{_-_, _+_, _*_}
 use lib.ListN.{length}
 use Rattle.patterns.proofs.JudgeLaws.{level, as-condition, as-term}
+use Rattle.patterns.proofs.PatternLaws.{no-pattern, not-pattern, any-pattern, list-pattern, open-pattern, group-pattern}
 use Rattle.patterns.proofs.TermLaws.{no-term, not-term, any-term, list-term, open-term, group-term, last-cond, end-cond, or-cond}
 use borrow.Author.Needs.{needs}
 use native.Mathlib.Omega.{arith}
@@ -49,28 +50,41 @@ judge-returns-3 : (t : ℕ) → judge-lts.Need-returns-3 (judge-claims t) (judge
 judge-returns-3 t c = let j = c .before .before .before in as-condition _ _ _ _ _ _ (j .before .if1 .taken) (end-cond _ _ _ _ _ (j .judge .ensures .one refl) (c .if3 .left))
 
 judge-returns-4 : (t : ℕ) → judge-lts.Need-returns-4 (judge-claims t) (judge-at t) judge.Post
-judge-returns-4 t c = as-term _ _ _ _ _ _ (c .before .if1 .left) (no-term _ _ _ _ _ (c .if4 .taken))
+judge-returns-4 t c = as-term _ _ _ _ _ _ (c .before .if1 .left) (no-term _ _ _ _ _ (c .if4 .taken)) (no-pattern _ _ _ _ _ (c .if4 .taken))
 
 judge-judge-requires-3 : (t : ℕ) → judge-lts.Need-judge-requires-3 (judge-claims t) (judge-at t) judge.Post
 judge-judge-requires-3 t c κs = (omega (arith, ap level (c .before .before .before .if1 .left)), tt)
 
 judge-returns-5 : (t : ℕ) → judge-lts.Need-returns-5 (judge-claims t) (judge-at t) judge.Post
-judge-returns-5 t c = let th = c .before .before in as-term _ _ _ _ _ _ (th .before .before .before .if1 .left) (not-term _ _ _ _ (th .if5 .taken) _ (c .before .judge3 .ensures .one refl))
+judge-returns-5 t c =
+    let th = c .before .before in
+    let j = c .before .judge3 .ensures in
+    as-term _ _ _ _ _ _ (th .before .before .before .if1 .left) (not-term _ _ _ _ (th .if5 .taken) _ (j .one refl)) (not-pattern _ _ _ _ (th .if5 .taken) _ (j .onwards))
 
 judge-returns-6 : (t : ℕ) → judge-lts.Need-returns-6 (judge-claims t) (judge-at t) judge.Post
-judge-returns-6 t c = as-term _ _ _ _ _ _ (c .before .before .before .before .if1 .left) (any-term _ _ _ _ (c .if6 .taken))
+judge-returns-6 t c = as-term _ _ _ _ _ _ (c .before .before .before .before .if1 .left) (any-term _ _ _ _ (c .if6 .taken)) (any-pattern _ _ _ _ (c .if6 .taken))
 
 judge-returns-7 : (t : ℕ) → judge-lts.Need-returns-7 (judge-claims t) (judge-at t) judge.Post
-judge-returns-7 t c = let th = c .before in as-term _ _ _ _ _ _ (th .before .before .before .before .before .if1 .left) (list-term _ _ _ _ (th .if7 .taken) _ (c .items .ensures))
+judge-returns-7 t c =
+    let th = c .before in
+    as-term _ _ _ _ _ _ (th .before .before .before .before .before .if1 .left) (list-term _ _ _ _ (th .if7 .taken) _ (c .items .ensures)) (list-pattern _ _ _ _ (th .if7 .taken) _ (c .items .ensures))
 
 judge-judge-requires-4 : (t : ℕ) → judge-lts.Need-judge-requires-4 (judge-claims t) (judge-at t) judge.Post
 judge-judge-requires-4 t c κs = (omega (arith, ap level (c .before .before .before .before .before .if1 .left)), tt)
 
 judge-returns-8 : (t : ℕ) → judge-lts.Need-returns-8 (judge-claims t) (judge-at t) judge.Post
-judge-returns-8 t c = let e = c .before .before in as-term _ _ _ _ _ _ (e .before .before .before .before .before .if1 .left) (open-term _ _ _ _ (e .before .before .if5 .left) (e .before .if6 .left) (e .if7 .left) _ (c .before .judge4 .ensures .all refl) (c .if8 .taken))
+judge-returns-8 t c =
+    let e = c .before .before in
+    let j = c .before .judge4 .ensures .all refl in
+    as-term _ _ _ _ _ _ (e .before .before .before .before .before .if1 .left) (open-term _ _ _ _ (e .before .before .if5 .left) (e .before .if6 .left) (e .if7 .left) _ j (c .if8 .taken))
+    (open-pattern _ _ _ _ (e .before .if6 .left) (e .if7 .left) _ j (c .if8 .taken))
 
 judge-returns-9 : (t : ℕ) → judge-lts.Need-returns-9 (judge-claims t) (judge-at t) judge.Post
-judge-returns-9 t c = let e = c .before .before in as-term _ _ _ _ _ _ (e .before .before .before .before .before .if1 .left) (group-term _ _ _ _ (e .before .before .if5 .left) (e .before .if6 .left) (e .if7 .left) _ (c .before .judge4 .ensures .all refl))
+judge-returns-9 t c =
+    let e = c .before .before in
+    let j = c .before .judge4 .ensures .all refl in
+    as-term _ _ _ _ _ _ (e .before .before .before .before .before .if1 .left) (group-term _ _ _ _ (e .before .before .if5 .left) (e .before .if6 .left) (e .if7 .left) _ j)
+    (group-pattern _ _ _ _ (e .before .if6 .left) (e .if7 .left) _ j)
 
 pub +judge-spec : {M : Type 1} → statement M
 +judge-spec = close μ-judge λ t. judge-lts.spec (judge-claims t)
