@@ -1,11 +1,10 @@
 -- The work of an event is the same under other names: it depends on nothing but how the roles at hand compare.
 -- Assumes nothing.
-use mathlib.Core.Path.{_≡_, refl, sym, ap, _∙_}
+use mathlib.Core.Path.{_≡_, refl, sym, _∙_}
 use mathlib.Core.Bool.{Bool, true, false, cond, _&&_}
 use mathlib.Core.List.{List, [], _∷_, map}
 use mathlib.Core.Option.{Option, none, some, Option·map}
-use Prim.Native.Nat.{ℕ, zero, suc, _-_, _<_}
-use native.Mathlib.Omega.{arith}
+use Prim.Native.Nat.{ℕ, zero, suc, _-_}
 use lib.ListN.{getElem?}
 use Rattle.grammar.specs.Trees.{Pattern, named, place, Template, Response, pass, hold, send, anew}
 use Rattle.grammar.specs.Rename.{mapPattern, mapSlots, mapResponse}
@@ -14,19 +13,8 @@ use Rattle.patterns.specs.All.{All}
 use Rattle.patterns.specs.Meets.{Order, meets}
 use Rattle.patterns.proofs.MeetsLaws.{through, meets-map, meets-agree}
 use Rattle.chain.specs.Work.{Outcome, Duty, fillSlot, consFilled, fill, chain, onward, respond, work, workEvent}
-use Rattle.chain.specs.Duties.{dutiesOf}
 use Rattle.chain.specs.Rename.{mapDuty, mapOutcome, DutyIn}
 use Rattle.chain.proofs.NamesIn.{Each, fill-in, chain-in}
-
--- the first n duties under other names
-pub duties-map : {M N R S : Type 0} (f : M → N) (g : R → S) (ds : ℕ → Duty M R) (n : ℕ) → map (mapDuty f g) (dutiesOf ds n) ≡ dutiesOf (λ i. mapDuty f g (ds i)) n
-duties-map f g ds zero = refl
-duties-map f g ds (suc n) = ap (λ l. mapDuty f g (ds n) ∷ l) (duties-map f g ds n)
-
--- what each of the first n has, the list has
-pub duties-all : {N R : Type 0} (P : Duty N R → Type 0) (ds : ℕ → Duty N R) (n : ℕ) → ((i : ℕ) → i < n → P (ds i)) → All P (dutiesOf ds n)
-duties-all P ds zero h = tt
-duties-all P ds (suc n) h = (h n (omega arith), duties-all P ds n (λ i l. h i (omega arith)))
 
 module _ {M N R S : Type 0} (f : M → N) (g : R → S) (o : Order M) (o′ : Order N) (In : M → Type 0)
     (is-agrees : (r p : M) → In r → In p → o .is r p ≡ o′ .is (f r) (f p))

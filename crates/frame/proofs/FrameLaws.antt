@@ -1,21 +1,20 @@
 -- Which bytes have which frame: a law for each answer, and what each answer says, exactly.
 -- Assumes nothing.
-use mathlib.Core.Path.{_≡_, refl, ap, sym, _∙_, subst}
+use mathlib.Core.Path.{_≡_, refl, ap, _∙_, subst}
 use mathlib.Core.Bool.{Bool, true, false, cond}
 use mathlib.Core.List.{List, [], _∷_, _++_}
 use mathlib.Core.Logic.{_↔_, _⊎_, inl, inr}
-use Prim.Native.Nat.{ℕ, suc, _<_}
+use Prim.Native.Nat.{ℕ}
 use native.Mathlib.Omega.{arith}
 use lib.Dec.{eqb}
 use lib.ListN.{length, getD}
 use borrow.Author.Tests.{eq-eqb, ne-eqb, eqb-true, eqb-false}
-use Rattle.lexer.specs.Class.{classOf}
 use Rattle.frame.specs.Text.{textOf, allClassed}
 use Rattle.frame.specs.Record.{refusal, lineByte, eventByte, newline, kindBy, frameOf}
 use Rattle.frame.specs.Framed.{Framed, Fault, kindless, endless, classless, Says}
 use Rattle.frame.specs.declared.records.Frame.{Frame}
 use Rattle.frame.specs.declared.records.Frame.the-variants.{Line, Event, WrongLength, Malformed}
-use Rattle.frame.proofs.TextLaws.{text-length, text-byte, text-classed, classed-text, text-classless, record-parts}
+use Rattle.frame.proofs.TextLaws.{text-length, text-classed, classed-text, text-classless, record-parts}
 
 module _ (s : List ℕ) where
   pub frame-length : (length s ≡ 128 → ⊥) → frameOf s ≡ WrongLength
@@ -125,10 +124,6 @@ refusal-none s = (λ e. which (frameOf s) (says s) e, back)
 -- the text of a record has 126 bytes
 pub framed-length : (b : ℕ) (s : List ℕ) → Framed b s → length (textOf s) ≡ 126
 framed-length b s h = text-length s (h .size)
-
--- and none of them is of class 0
-pub framed-classed : (b : ℕ) (s : List ℕ) → Framed b s → (i : ℕ) → i < 126 → classOf (getD (textOf s) i 0) ≡ 0 → ⊥
-framed-classed b s h i l e = h .classed (suc i) (omega arith) l (ap classOf (sym (text-byte s (h .size) i l)) ∙ e)
 
 -- a record is its first byte, its text and the newline
 pub framed-parts : (b : ℕ) (s : List ℕ) → Framed b s → s ≡ b ∷ (textOf s ++ (newline ∷ []))

@@ -10,7 +10,7 @@ use lib.Dec.{eqb, leb}
 use borrow.Author.Tests.{eqb-true, leb-true}
 use Rattle.lexer.specs.Class.{within}
 use Rattle.lexer.proofs.Bools.{and-left, and-right}
-use Rattle.lexer.specs.Words.{same, nameLike, digitKind, kindOf, anyW, reserved, placeFrom}
+use Rattle.lexer.specs.Words.{same, nameLike, digitKind, kindOf, reserved, placeFrom}
 
 pub same-true : (a k : List ℕ) → same a k ≡ true → a ≡ k
 unfolding same
@@ -62,9 +62,6 @@ other-kind w j h e = go (nameLike w) (eqb (length w) 1) (within 48 57 (getD w 0 
 pub kind-word : (w : List ℕ) (j : ℕ) → j < 10 → kindOf w ≡ 1 + j → w ≡ getD reserved j []
 unfolding kindOf
 kind-word w j h e = place-word 1 reserved w (cond (nameLike w) 0 (digitKind w)) j (other-kind w j h) e
-
-pub kind-any : (w : List ℕ) → kindOf w ≡ 4 → w ≡ anyW
-kind-any w e = kind-word w 3 (omega arith) e
 
 -- a number above the places is the other number
 place-high : (i : ℕ) (ks : List (List ℕ)) (w : List ℕ) (d : ℕ) → i + length ks ≤ placeFrom i ks w d → placeFrom i ks w d ≡ d

@@ -2,7 +2,7 @@
 -- Assumes nothing.
 use mathlib.Core.Path.{_≡_, refl, ap, _∙_}
 use mathlib.Core.Bool.{Bool, cond, not}
-use mathlib.Core.List.{List, [], _∷_, map}
+use mathlib.Core.List.{List, [], _∷_}
 use Prim.Native.Nat.{ℕ, zero, suc, _<_, _≤_}
 use native.Mathlib.Omega.{arith}
 use lib.ListN.{length, getD}
@@ -85,29 +85,7 @@ module _ (w : List ℕ) (h : Packable w) where
 pub unpacked-name : (w : List ℕ) → kindOf w ≡ nameK → Wordy w → unpacked (packed w) ≡ w
 unpacked-name w k h = unpacked-packed w (name-packable w k h)
 
--- words that their eight columns show whole
-abbrev pub Packables : List (List ℕ) → Type 0
-Packables [] = Unit {0}
-Packables (w ∷ ws) = Packable w × Packables ws
-
-pub unpacked-all : (ws : List (List ℕ)) → Packables ws → map unpacked (map packed ws) ≡ ws
-unpacked-all [] h = refl
-unpacked-all (w ∷ ws) h = λ i. unpacked-packed w (h .0) i ∷ unpacked-all ws (h .1) i
-
--- `-` stands where a reply has no name
-pub dash-packable : Packable (45 ∷ [])
-unfolding columnOf
-dash-packable = record { bytes = record { byte = small }; short = omega arith; spaceless = inside }
-  where
-    small : (i : ℕ) → getD {A = ℕ} (45 ∷ []) i 32 < 256
-    small zero = omega arith
-    small (suc i) = omega arith
-
-    inside : (i : ℕ) → i < 1 → getD {A = ℕ} (45 ∷ []) i 32 ≡ 32 → ⊥
-    inside zero l e = omega arith
-    inside (suc i) l e = omega arith
-
--- its number, and the bytes read back
+-- `-` stands where a reply has no name: its number, and the bytes read back
 pub dash-packed : packed (45 ∷ []) ≡ 3251634253311516704
 unfolding packed columnOf
 dash-packed = refl

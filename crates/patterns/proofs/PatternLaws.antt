@@ -1,17 +1,18 @@
 -- What each way through a pattern shows.
 -- Assumes nothing.
-use mathlib.Core.Path.{_≡_, refl, _∙_}
+use mathlib.Core.Path.{_≡_, refl}
 use mathlib.Core.Bool.{Bool, true, false}
-use mathlib.Core.List.{List, [], _∷_, _++_, append-assoc}
+use mathlib.Core.List.{List, [], _∷_, _++_}
 use Prim.Native.Nat.{ℕ, _+_, _≤_}
 use native.Mathlib.Omega.{arith}
 use lib.ListN.{length, getD, drop, length-append}
-use Rattle.grammar.specs.Trees.{anyEvent, items, Condition, Pattern, plain, bracketed}
+use Rattle.grammar.specs.Trees.{anyEvent, items, Pattern, plain, bracketed}
 use Rattle.code.specs.Trees.{codeSimple, codeCondition, codePattern}
-use Rattle.patterns.specs.Meets.{itemsMeet, conditionMeets, meets}
-use Rattle.patterns.specs.Judged.{orderIn, Ended, ItemsRead, ConditionRead, PatternRead}
+use Rattle.patterns.specs.Meets.{itemsMeet, meets}
+use Rattle.patterns.specs.Judged.{orderIn, ItemsRead, ConditionRead, PatternRead}
 use Rattle.patterns.specs.declared.judge.Judged.{Judged}
-use Rattle.patterns.proofs.Here.{none, here, beyond}
+use Rattle.patterns.proofs.Here.{none, here}
+use Rattle.patterns.proofs.TermLaws.{within}
 
 module _ (ps event code : List ℕ) (at : ℕ) where
   pub no-pattern : (ok : Bool) → length code ≤ at → PatternRead ps event code at (record { end = at; ok = ok })
@@ -52,15 +53,6 @@ module _ (ps event code : List ℕ) (at : ℕ) where
       go (bracketed c) rest e = let h = here code at _ _ e in absurd (omega arith)
 
   module _ (n₂ : getD code at 0 ≡ 97 → ⊥) (n₃ : getD code at 0 ≡ 60 → ⊥) (r : Judged) (ih : ConditionRead ps event code (at + 1) r) where
-    within : (c : Condition ℕ) (rest : List ℕ) → drop at code ≡ 91 ∷ ((codeCondition c ++ (93 ∷ [])) ++ rest)
-        → (r .ok ≡ conditionMeets (orderIn ps) event c) × (r .end ≡ at + 1 + length (codeCondition c)) × (drop (r .end) code ≡ 93 ∷ rest)
-    unfolding Ended
-    within c rest e =
-        let h = here code at _ _ e in
-        let q : drop (at + 1) code ≡ codeCondition c ++ (93 ∷ rest) = h .next ∙ append-assoc (codeCondition c) (93 ∷ []) rest in
-        let d = ih .right c (93 ∷ rest) (λ z. absurd (omega arith)) q in
-        (d .0, d .1, beyond code (at + 1) (r .end) (codeCondition c) (93 ∷ rest) q (d .1))
-
     pub open-pattern : length code ≤ r .end → PatternRead ps event code at (record { end = r .end; ok = false })
     unfolding codePattern codeSimple
     open-pattern l = record { onwards = let p = ih .onwards in omega arith; moves = λ l. let p = ih .onwards in omega arith; right = go }
@@ -68,7 +60,7 @@ module _ (ps event code : List ℕ) (at : ℕ) where
         go : (p : Pattern ℕ) (rest : List ℕ) → drop at code ≡ codePattern p ++ rest → (false ≡ meets (orderIn ps) event p) × (r .end ≡ at + length (codePattern p))
         go (plain anyEvent) rest e = absurd (n₂ (here code at _ _ e .byte))
         go (plain (items xs)) rest e = absurd (n₃ (here code at _ _ e .byte))
-        go (bracketed c) rest e = absurd (none code (r .end) _ _ l (within c rest e .2))
+        go (bracketed c) rest e = absurd (none code (r .end) _ _ l (within ps event code at r ih 91 93 (λ z. absurd (omega arith)) c rest e .2))
 
     pub group-pattern : PatternRead ps event code at (record { end = r .end + 1; ok = r .ok })
     unfolding codePattern codeSimple meets itemsMeet
@@ -77,4 +69,4 @@ module _ (ps event code : List ℕ) (at : ℕ) where
         go : (p : Pattern ℕ) (rest : List ℕ) → drop at code ≡ codePattern p ++ rest → (r .ok ≡ meets (orderIn ps) event p) × (r .end + 1 ≡ at + length (codePattern p))
         go (plain anyEvent) rest e = absurd (n₂ (here code at _ _ e .byte))
         go (plain (items xs)) rest e = absurd (n₃ (here code at _ _ e .byte))
-        go (bracketed c) rest e = let d = within c rest e in (d .0, omega (arith, d .1, length-append (codeCondition c) (93 ∷ [])))
+        go (bracketed c) rest e = let d = within ps event code at r ih 91 93 (λ z. absurd (omega arith)) c rest e in (d .0, omega (arith, d .1, length-append (codeCondition c) (93 ∷ [])))

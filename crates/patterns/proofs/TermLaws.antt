@@ -54,17 +54,17 @@ module _ (ps event code : List ℕ) (at : ℕ) where
       go (negate t) rest e = let h = here code at _ _ e in absurd (omega arith)
       go (inside c) rest e = let h = here code at _ _ e in absurd (omega arith)
 
-  module _ (n₁ : getD code at 0 ≡ 110 → ⊥) (n₂ : getD code at 0 ≡ 97 → ⊥) (n₃ : getD code at 0 ≡ 60 → ⊥) (r : Judged) (ih : ConditionRead ps event code (at + 1) r) where
-    -- the condition within the brackets ends at its bracket
-    within : (c : Condition ℕ) (rest : List ℕ) → drop at code ≡ 40 ∷ ((codeCondition c ++ (41 ∷ [])) ++ rest)
-        → (r .ok ≡ conditionMeets (orderIn ps) event c) × (r .end ≡ at + 1 + length (codeCondition c)) × (drop (r .end) code ≡ 41 ∷ rest)
-    unfolding Ended
-    within c rest e =
-        let h = here code at _ _ e in
-        let q : drop (at + 1) code ≡ codeCondition c ++ (41 ∷ rest) = h .next ∙ append-assoc (codeCondition c) (41 ∷ []) rest in
-        let d = ih .right c (41 ∷ rest) (λ z. absurd (omega arith)) q in
-        (d .0, d .1, beyond code (at + 1) (r .end) (codeCondition c) (41 ∷ rest) q (d .1))
+  -- the condition within a pair of brackets ends at the second
+  pub within : (r : Judged) → ConditionRead ps event code (at + 1) r → (b q : ℕ) → (q ≡ 111 → ⊥) → (c : Condition ℕ) (rest : List ℕ) → drop at code ≡ b ∷ ((codeCondition c ++ (q ∷ [])) ++ rest)
+      → (r .ok ≡ conditionMeets (orderIn ps) event c) × (r .end ≡ at + 1 + length (codeCondition c)) × (drop (r .end) code ≡ q ∷ rest)
+  unfolding Ended
+  within r ih b q n c rest e =
+      let h = here code at _ _ e in
+      let f : drop (at + 1) code ≡ codeCondition c ++ (q ∷ rest) = h .next ∙ append-assoc (codeCondition c) (q ∷ []) rest in
+      let d = ih .right c (q ∷ rest) n f in
+      (d .0, d .1, beyond code (at + 1) (r .end) (codeCondition c) (q ∷ rest) f (d .1))
 
+  module _ (n₁ : getD code at 0 ≡ 110 → ⊥) (n₂ : getD code at 0 ≡ 97 → ⊥) (n₃ : getD code at 0 ≡ 60 → ⊥) (r : Judged) (ih : ConditionRead ps event code (at + 1) r) where
     pub open-term : length code ≤ r .end → TermRead ps event code at (record { end = r .end; ok = false })
     unfolding codeTerm codeSimple
     open-term l = record { onwards = let p = ih .onwards in omega arith; right = go }
@@ -73,7 +73,7 @@ module _ (ps event code : List ℕ) (at : ℕ) where
         go (simple anyEvent) rest e = absurd (n₂ (here code at _ _ e .byte))
         go (simple (items xs)) rest e = absurd (n₃ (here code at _ _ e .byte))
         go (negate t) rest e = absurd (n₁ (here code at _ _ e .byte))
-        go (inside c) rest e = absurd (none code (r .end) _ _ l (within c rest e .2))
+        go (inside c) rest e = absurd (none code (r .end) _ _ l (within r ih 40 41 (λ z. absurd (omega arith)) c rest e .2))
 
     pub group-term : TermRead ps event code at (record { end = r .end + 1; ok = r .ok })
     unfolding codeTerm codeSimple termMeets conditionMeets
@@ -83,7 +83,7 @@ module _ (ps event code : List ℕ) (at : ℕ) where
         go (simple anyEvent) rest e = absurd (n₂ (here code at _ _ e .byte))
         go (simple (items xs)) rest e = absurd (n₃ (here code at _ _ e .byte))
         go (negate t) rest e = absurd (n₁ (here code at _ _ e .byte))
-        go (inside c) rest e = let d = within c rest e in (d .0, omega (arith, d .1, length-append (codeCondition c) (41 ∷ [])))
+        go (inside c) rest e = let d = within r ih 40 41 (λ z. absurd (omega arith)) c rest e in (d .0, omega (arith, d .1, length-append (codeCondition c) (41 ∷ [])))
 
   -- ---- a condition begins with a term
   module _ (s : Judged) (it : TermRead ps event code at s) where

@@ -71,10 +71,6 @@ module _ {P : Type 0} (φ : Past P) where
   matches-at-ends m =
       Iff·trans (matchesNow-iff m) (λ r. (r .0, r .1, ends-iff (r .0) .1 (r .2)), λ r. (r .0, r .1, ends-iff (r .0) .0 (r .2)))
 
-  -- Whether the past matches does not depend on the event that the walk was for.
-  pub matched-any : (t : P → Bool) (m : Positions) → matchedBy (m 0) (walk t m φ 0) ≡ matchesNow φ m
-  matched-any t m = same-test _ _ (Iff·trans (matched-by t m φ (walk t m φ 0) (walk-says t m φ 0)) (Iff·symm (matchesNow-iff m)))
-
   -- The ends depend neither on the event nor on the positions that the walk was for.
   pub ends-any : (t : P → Bool) (m : Positions) (k : ℕ) → endsBy (walk t m φ 0) k ≡ ends φ k
   ends-any t m k = same-test _ _ (Iff·trans (ends-by t m φ (walk t m φ 0) (walk-says t m φ 0) k) (Iff·symm (ends-iff k)))

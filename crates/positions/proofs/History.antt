@@ -163,7 +163,3 @@ module _ {P A : Type 0} (meets : A → P → Bool) where
   -- So following any list of events by positions, from the start, answers as Appendix A does.
   pub following-is-right : (φ : Past P) (l : List A) → (matchesNow φ (steps meets φ atStart l) ≡ true) ↔ Sat meets l φ
   following-is-right φ l = now-iff φ l (steps meets φ atStart l) (after-all φ l)
-
-  -- And as the executable matcher does.
-  pub following-matches : (φ : Past P) (l : List A) → matchesNow φ (steps meets φ atStart l) ≡ matches meets φ l
-  following-matches φ l = now-matches φ l (steps meets φ atStart l) (after-all φ l)

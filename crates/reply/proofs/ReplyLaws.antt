@@ -9,14 +9,8 @@ use lib.Dec.{ltb}
 use lib.ListN.{length, getD, length-append, length-map, getD-replicate, List·getD-append}
 use lib.Seq.{getD-at, getD-append-add, ext-getD}
 use borrow.Author.Tests.{ltb-true, ltb-false}
-use Rattle.names.specs.Name.{packed}
-use Rattle.names.specs.Shape.{Packable}
 use Rattle.names.specs.Unpacked.{unpacked}
-use Rattle.names.proofs.UnpackedLaws.{Packables, unpacked-packed, unpacked-all}
-use Rattle.reply.specs.declared.kinds.Kind.{Kind}
-use Rattle.reply.specs.Kinds.{letterOf}
 use Rattle.reply.specs.Reply.{padded, spaced, replyBytes}
-use Rattle.reply.specs.Writing.{replyOf}
 use Rattle.reply.specs.Columns.{Columns}
 use Rattle.reply.proofs.PaddedLaws.{spaces, padded-nil, padded-cons, padded-length, padded-short}
 use Rattle.reply.proofs.TextLaws.{short-unpacked, spaced-length}
@@ -102,13 +96,6 @@ module _ (a n : ℕ) (w x : List ℕ) where
 -- "two digits": the number is read back from columns 2 and 3
 pub reply-digits : (n : ℕ) → n < 100 → (n / 10 + 48 ≤ 57) × (n % 10 + 48 ≤ 57) × ((n / 10 + 48 - 48) * 10 + (n % 10 + 48 - 48) ≡ n)
 reply-digits n h = (omega arith, omega arith, omega arith)
-
--- the reply of names that were packed is that of the names
-pub reply-names : (kind : Kind) (n : ℕ) (w : List ℕ) (ws : List (List ℕ)) → Packable w → Packables ws → replyOf kind n (packed w) (map packed ws) ≡ replyBytes (letterOf kind) n w (spaced ws)
-reply-names kind n w ws h k =
-    let p = unpacked-packed w h in
-    let q = unpacked-all ws k in
-    λ i. replyBytes (letterOf kind) n (p i) (spaced (q i))
 
 -- at most four role names stand there whole
 pub roles-room : (ns : List ℕ) → length ns ≤ 4 → length (spaced (map unpacked ns)) ≤ 35
