@@ -39,6 +39,7 @@ bookDuty rs h x =
       response = x .rule .response;
     }
 
+-- every rule with whether its past matches now
 abbrev pub bookDuties : Book → List Duty
 bookDuties b = map (bookDuty (b .roles) (b .history)) (b .rules)
 

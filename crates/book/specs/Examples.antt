@@ -13,6 +13,7 @@ use Rattle.book.specs.Book.{bookStep, freshBook}
 use Rattle.book.specs.Session.{answers}
 use Rattle.book.specs.Text.{callOf, answerOf}
 
+-- a call and the answer that document 01 prints of it
 pub record Turn : Type 0 where
   pub call : Call
   pub answer : Answer
@@ -29,6 +30,7 @@ roleTurn w = record { call = callOf (bytesOf "Lrole " ++ (bytesOf w ++ bytesOf "
 abbrev pub passTurn : String → Turn
 passTurn w = record { call = callOf (bytesOf "Lrule " ++ (bytesOf w ++ bytesOf ": any*;any;pass")); answer = answerOf 0 (bytesOf "D 00 " ++ bytesOf w) }
 
+-- the calls of a session, and its answers
 abbrev pub callsOf : List Turn → List Call
 callsOf rs = map (λ (r : Turn). r .call) rs
 

@@ -29,5 +29,6 @@ pub record Rule : Type 0 where
 abbrev pub Duty : Type 0
 Duty = work.Duty Name Name
 
+-- how the work of an event ends, with names of roles and rules
 abbrev pub Outcome : Type 0
 Outcome = work.Outcome Name Name

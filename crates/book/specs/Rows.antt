@@ -41,6 +41,7 @@ module _ (rs : Roles) (ds : List Duty) where
   abbrev pub Taken : Name → Type 0
   Taken n = (isHeld same rs n ≡ true) ⊎ (isRule ds n ≡ true)
 
+  -- it is neither
   pub record Free (n : Name) : Type 0 where
     pub no-role : isHeld same rs n ≡ false
     pub no-rule : isRule ds n ≡ false
@@ -58,6 +59,7 @@ module _ (rs : Roles) (ds : List Duty) where
     pub known : allHeld same rs (ruleNames (r .past) (r .trigger) (r .response)) ≡ true
     pub small : sizePast (r .past) ≤ limit
 
+  -- "Refusals, in the order checked": a call and what is decided of it, row by row
   pub data Row (c : Call) : Decision → Type 0 where
     -- "reply buffer not 50 bytes"
     row-1 : (length (c .buffer) ≡ 50 → ⊥) → Row c (refused 1)

@@ -28,6 +28,7 @@ pub record Tracked : Type 0 where
   pub roles : Roles
   pub rules : List Followed
 
+-- "A fresh book has top, no rules and an empty list."
 abbrev pub freshTracked : Tracked
 freshTracked = record { roles = freshRoles topW; rules = [] }
 
@@ -53,6 +54,7 @@ trackDuty x =
       response = x .rule .response;
     }
 
+-- the same rows as the book's, with the positions to tell which pasts match
 abbrev pub trackDecides : Tracked → Call → Decision
 trackDecides m c = decide (m .roles) (map trackDuty (m .rules)) c
 
@@ -60,18 +62,21 @@ trackDecides m c = decide (m .roles) (map trackDuty (m .rules)) c
 abbrev pub moveOn : Roles → Event → Followed → Followed
 moveOn rs e x = record { rule = x .rule; positions = stepNumber rs (x .rule .past) (x .positions) e }
 
+-- "H, U and T commit nothing."
 abbrev pub trackWorked : Tracked → Outcome → Tracked
 trackWorked m (committed e n) = record { roles = m .roles; rules = map (moveOn (m .roles) e) (m .rules) }
 trackWorked m (held w n) = m
 trackWorked m (unfit w n) = m
 trackWorked m (tooLong w) = m
 
+-- "The monitor is unchanged by every row."; a role and a rule join as in the book
 abbrev pub trackNext : Tracked → Decision → Tracked
 trackNext m (refused n) = m
 trackNext m (newRole n p) = record { roles = record { name = n; parent = p } ∷ m .roles; rules = m .rules }
 trackNext m (newRule r) = record { roles = m .roles; rules = record { rule = r; positions = startNumber } ∷ m .rules }
 trackNext m (worked o) = trackWorked m o
 
+-- "One call is one step"
 abbrev pub trackStep : Tracked → Call → Tracked × Answer
 trackStep m c = (trackNext m (trackDecides m c), answer (trackDecides m c) (c .buffer))
 
@@ -86,6 +91,7 @@ numberAfter rs p m (e ∷ l) = numberAfter rs p (stepNumber rs p m e) l
 abbrev pub followed : Roles → List Event → Entry → Followed
 followed rs h x = record { rule = x .rule; positions = numberAfter rs (x .rule .past) startNumber (drop (x .start) h) }
 
+-- every rule of a book with the positions after the list from its start on
 abbrev pub tracked : Book → Tracked
 tracked b = record { roles = b .roles; rules = map (followed (b .roles) (b .history)) (b .rules) }
 

@@ -23,6 +23,7 @@ use Rattle.chain.specs.declared.responses.Given.{Given}
 abbrev pub pickedAs : Bool → ℕ → ℕ → Picked
 pickedAs ok role end = record { ok = ok; role = role; end = end }
 
+-- a response read: its word, whether its template is fit, and the event made
 abbrev pub givenAs : Word → Bool → Event → Given
 givenAs word ok event = record { word = word; ok = ok; event = event }
 

@@ -28,6 +28,7 @@ unfoldable pub fillSlot : {N : Type 0} → List N → Slot N → Option N
 fillSlot e (named w) = some w
 fillSlot e (place n) = getElem? e (n - 1)
 
+-- a slot filled, and the slots after it; none where either is unfit
 abbrev pub consFilled : {N : Type 0} → Option N → Option (List N) → Option (List N)
 consFilled none e = none
 consFilled (some n) none = none

@@ -18,6 +18,7 @@ idOf ns w = cond (held ns w) (place (packed w) ns) 127
 abbrev pub letters : List ℕ
 letters = 0 ∷ 0 ∷ 0 ∷ 0 ∷ 97 ∷ 110 ∷ 111 ∷ 112 ∷ 104 ∷ 115 ∷ 119 ∷ 0 ∷ 48 ∷ 49 ∷ 50 ∷ 51 ∷ 52 ∷ 53 ∷ 54 ∷ 55 ∷ 56 ∷ 57 ∷ []
 
+-- the letter of a kind, 0 where it has none
 unfoldable pub letterOf : ℕ → ℕ
 letterOf k = getD letters k 0
 
@@ -33,6 +34,7 @@ unheld ns (word w) = eqb (kindOf w) nameK && not (held ns w)
 unheld ns (mark b) = false
 unheld ns (other b) = false
 
+-- one byte a token
 unfoldable pub codes : List ℕ → List Token → List ℕ
 codes ns [] = []
 codes ns (t ∷ ts) = codeOf ns t ∷ codes ns ts

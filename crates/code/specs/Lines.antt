@@ -46,6 +46,7 @@ pub record RuleTold (ns w : List ℕ) (p : Past) (t : Pattern) (x : Response) (r
   pub unknown : r .body .unknown ≡ lacks ns (ruleNames p t x)
   pub fits : r .fits ≡ leb (sizePast p) limit
 
+-- what reading a rule line promises, of any text and of one in the language
 pub record RuleRead (ns s : List ℕ) (r : RuleLine) : Type 0 where
   pub small : r .body .len ≤ 126
   pub right : length s ≤ 126 → Few ns → (w : List ℕ) (p : Past) (t : Pattern) (x : Response) → Says s (rule w p t x) → RuleTold ns w p t x r
@@ -71,6 +72,7 @@ pub record EventTold (ns : List ℕ) (ws : List (List ℕ)) (r : EventLine) : Ty
   pub roles : take (r .len) (r .roles) ≡ map (idOf ns) ws
   pub unknown : r .unknown ≡ lacks ns ws
 
+-- what reading an event promises, of any text and of one in the language
 pub record EventRead (ns s : List ℕ) (r : EventLine) : Type 0 where
   pub small : r .len ≤ 4
   pub right : length s ≤ 126 → Few ns → (ws : List (List ℕ)) → Says s (event ws) → EventTold ns ws r

@@ -17,7 +17,7 @@ use Rattle.patterns.specs.All.{All}
 use Rattle.patterns.specs.Meets.{meets}
 use Rattle.patterns.specs.Judged.{orderIn}
 use Rattle.patterns.proofs.TableLaws.{below-later}
-use Rattle.patterns.proofs.MeetsLaws.{meets-agree}
+use Rattle.patterns.proofs.MeetsLaws.{meets-agree, any-all}
 use Rattle.positions.specs.Past as meaning
 use Rattle.positions.specs.Numbers.{size}
 use Rattle.positions.proofs.Right.{right-start, right-step, right-matches}
@@ -90,15 +90,11 @@ role-keeps f name parent i t l g = record {
     longer [] h = tt
     longer (e ∷ l) h = (more e (h .0), longer l (h .1))
 
-    any : (l : List ℕ) → All (λ n. Unit {0}) l
-    any [] = tt
-    any (n ∷ l) = (tt, any l)
-
     agree : (l : List (List ℕ)) → EventsHeld (f .roles) l → All (λ e. (p : Pattern ℕ) → meets (orderIn (f .parents)) e p ≡ meets (orderIn (set (f .parents) (f .roles) parent)) e p) l
     agree [] h = tt
     agree (e ∷ l) h = (
       λ p. meets-agree (orderIn (f .parents)) (orderIn (set (f .parents) (f .roles) parent)) (λ i. i < f .roles) (λ n. Unit {0})
-          (λ a b k u. refl) (λ a b k u. sym (below-later (f .parents) (f .roles) parent a b k)) e (h .0) p (any (patternNames p)),
+          (λ a b k u. refl) (λ a b k u. sym (below-later (f .parents) (f .roles) parent a b k)) e (h .0) p (any-all (patternNames p)),
       agree l (h .1),
     )
 

@@ -35,9 +35,11 @@ pub record Case : Type 0 where
   pub events : List String
   pub answer : Bool
 
+-- a row with the answer yes
 abbrev pub yes : String → List String → Case
 yes p l = record { past = p; events = l; answer = true }
 
+-- a row with the answer no
 abbrev pub no : String → List String → Case
 no p l = record { past = p; events = l; answer = false }
 
@@ -109,6 +111,7 @@ pub record Claim (c : Case) : Type 0 where
 abbrev pub readPast : String → Option read.Past
 readPast s = wholly (pastOf (depth (length (bytesOf s))) (tokens (bytesOf s)))
 
+-- an event read and those after it, where each text is an event
 abbrev pub joined : Option read.Line → Option (List Event) → Option (List Event)
 joined none es = none
 joined (some (role w p)) es = none
@@ -116,6 +119,7 @@ joined (some (rule w p t x)) es = none
 joined (some (event e)) none = none
 joined (some (event e)) (some es) = some (e ∷ es)
 
+-- the events that texts say
 abbrev pub readEvents : List String → Option (List Event)
 readEvents [] = some []
 readEvents (s ∷ ss) = joined (readEvent (bytesOf s)) (readEvents ss)
@@ -151,6 +155,7 @@ answered way (some p) (some l) = some (way (pastMeaning p) l)
 abbrev pub computed : Way → List Case → List (Option Bool)
 computed way cs = map (λ c. answered way (readPast (c .past)) (readEvents (c .events))) cs
 
+-- the answers as document 01 prints them
 abbrev pub printed : List Case → List (Option Bool)
 printed cs = map (λ c. some (c .answer)) cs
 

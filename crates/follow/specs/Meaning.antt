@@ -21,6 +21,7 @@ unfoldable mutual
   sequenceMeaning (single c) = factorMeaning c
   sequenceMeaning (beside c q) = seq (factorMeaning c) (sequenceMeaning q)
 
+  -- "a base followed by any number of `*` (zero or more times)"
   pub factorMeaning : {N : Type 0} → trees.Factor N → Past (Pattern N)
   factorMeaning (starred b n) = starsOn n (baseMeaning b)
 

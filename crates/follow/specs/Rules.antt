@@ -35,6 +35,7 @@ pub record Keeps (rule : Rule) (t : Tree) : Type 0 where
   pub trigger : rule .trigger ≡ length (codePast (t .past)) + 1
   pub ends : rule .ends ≡ endsIn (t .past)
 
+-- what making a rule promises: it keeps the tree that its body spells
 pub record Compiled (name : ℕ) (body : Encoded) (r : Rule) : Type 0 where
   pub named : r .name ≡ name
   pub right : (t : Tree) → Spelled (body .len) (body .code) t → Keeps r t

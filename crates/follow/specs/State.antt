@@ -17,10 +17,11 @@ use Rattle.follow.specs.declared.state.Event.{Event}
 use Rattle.follow.specs.declared.state.Follower.{Follower}
 use Rattle.follow.specs.declared.declare.Declared.{Declared}
 
--- "with 64 roles held, top included"; "with 32 rules held"
+-- "with 64 roles held, top included"
 abbrev pub maxRoles : ℕ
 maxRoles = 64
 
+-- "rule line with 32 rules held"
 abbrev pub maxRules : ℕ
 maxRules = 32
 
@@ -28,6 +29,7 @@ maxRules = 32
 abbrev pub capped : ℕ → ℕ → ℕ
 capped limit n = cond (leb n limit) n limit
 
+-- what `capped` promises
 pub record Capped (limit n r : ℕ) : Type 0 where
   pub is : r ≡ capped limit n
   pub small : r ≤ limit
@@ -40,10 +42,18 @@ eventOf e = take (capped 4 (e .len)) (e .roles)
 abbrev pub noRule : Rule
 noRule = record { name = 0; len = 0; trigger = 0; ends = 0; code = [] }
 
--- the state of a fresh monitor: top, and no rule
+-- the arrays have their lengths, which every call knows by their types
+pub record Sized (f : Follower) : Type 0 where
+  pub names : length (f .names) ≡ 64
+  pub parents : length (f .parents) ≡ 64
+  pub positions : length (f .positions) ≡ 32
+  pub rules : length (f .rules) ≡ 32
+
+-- the name top
 abbrev pub topW : List ℕ
 topW = 116 ∷ 111 ∷ 112 ∷ []
 
+-- the state of a fresh monitor: "`top` is declared from the start", and no rule
 pub record Fresh (f : Follower) : Type 0 where
   pub roles : f .roles ≡ 1
   pub count : f .count ≡ 0
@@ -85,9 +95,11 @@ addRule f rule = record {
   rules = set (f .rules) (f .count) rule;
 }
 
+-- "The monitor is unchanged by every row."
 abbrev pub refuse : Follower → ℕ → Declared
 refuse f n = record { number = n; follower = f }
 
+-- "0 when taken"
 abbrev pub taken : Follower → Declared
 taken f = record { number = 0; follower = f }
 
@@ -108,6 +120,7 @@ declareRule f l rule =
     (cond (ltb (f .count) maxRules) (taken (addRule f rule)) (refuse f 8))
     (refuse f 7)))
 
+-- what declaring a rule promises: the answer is that of the rows, and the rule that joins keeps its tree
 pub record RuleDeclared (f : Follower) (l : RuleLine) (r : Declared) : Type 0 where
   pub rule : Rule
   pub compiled : Compiled (l .name) (l .body) rule

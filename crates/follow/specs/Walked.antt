@@ -25,12 +25,15 @@ starts b = among b (97 ∷ 60 ∷ 91 ∷ 40 ∷ [])
 abbrev pub AfterBase : List ℕ → Type 0
 AfterBase rest = Unit {0}
 
+-- no more stars
 abbrev pub AfterFactor : List ℕ → Type 0
 AfterFactor rest = getD rest 0 0 ≡ 42 → ⊥
 
+-- nor another factor
 abbrev pub AfterSequence : List ℕ → Type 0
 AfterSequence rest = AfterFactor rest × (starts (getD rest 0 0) ≡ false)
 
+-- nor another sequence
 abbrev pub AfterPast : List ℕ → Type 0
 AfterPast rest = AfterSequence rest × (getD rest 0 0 ≡ 43 → ⊥)
 
@@ -41,6 +44,7 @@ pub record WalkRead {T : Type 0} (code′ : T → List ℕ) (meaning : T → Pas
   pub right : (t : T) (rest : List ℕ) → After rest → drop at code ≡ code′ t ++ rest
       → (r .sums ≡ sums m (meets (orderIn ps) event) (meaning t) k) × (r .end ≡ at + length (code′ t))
 
+-- the promise at each level
 abbrev pub BaseRead : ℕ → List ℕ → List ℕ → List ℕ → ℕ → ℕ → Walk → Type 0
 BaseRead = WalkRead codeBase baseMeaning AfterBase
 
@@ -58,6 +62,7 @@ abbrev pub again : ℕ → Sums → Sums
 again zero s = s
 again (suc n) s = again n (starSums s)
 
+-- the stars after a base
 pub record StarsRead (code : List ℕ) (w r : Walk) : Type 0 where
   pub onwards : w .end ≤ r .end
   pub right : (n : ℕ) (rest : List ℕ) → AfterFactor rest → drop (w .end) code ≡ replicate n 42 ++ rest

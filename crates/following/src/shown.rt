@@ -6,6 +6,7 @@ pub fn say(s: &[u8]) {
     io::write_all(STDOUT_FILENO, s);
 }
 
+// A number in decimal.
 pub fn number(n: u64) {
     io::print_decimal(STDOUT_FILENO, n);
 }

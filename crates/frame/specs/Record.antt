@@ -20,9 +20,11 @@ refusal Malformed = 3
 abbrev pub lineByte : ℕ
 lineByte = 76
 
+-- "`E` (an act)"
 abbrev pub eventByte : ℕ
 eventByte = 69
 
+-- "Byte 127 is the newline, value 10."
 abbrev pub newline : ℕ
 newline = 10
 

@@ -5,6 +5,7 @@ use mathlib.Core.List.{List}
 use Rattle.grammar.specs.Trees as trees
 pub use Rattle.grammar.specs.Trees.{exact, below, close, starClose, item, anyEvent, items, term, or, negate, simple, inside, plain, bracketed, only, either, single, beside, starred, pattern, nothing, group, named, place, pass, hold, send, anew, role, rule, event}
 
+-- each form of Trees.antt, with the bytes of names
 abbrev pub Item : Type 0
 Item = trees.Item (List ℕ)
 

@@ -26,11 +26,13 @@ declares (role w p) = true
 declares (rule w p t x) = true
 declares (event ws) = false
 
+-- the texts of an act
 abbrev pub happens : Line → Bool
 happens (role w p) = false
 happens (rule w p t x) = false
 happens (event ws) = true
 
+-- the first of two readings that there is
 abbrev pub orElse : {A : Type 0} → Option A → Option A → Option A
 orElse none d = d
 orElse (some a) d = some a
@@ -43,6 +45,7 @@ readLine s = orElse (wholly (ruleOf (depth (length s)) (tokens s))) (wholly (rol
 unfoldable pub readEvent : List ℕ → Option Line
 readEvent s = wholly (eventOf (tokens s))
 
+-- whether there is a reading
 abbrev pub isSome : {A : Type 0} → Option A → Bool
 isSome none = false
 isSome (some a) = true

@@ -3,6 +3,7 @@
 use mathlib.Core.List.{List, [], _∷_, _++_}
 use Rattle.grammar.specs.Trees.{exact, below, Items, close, starClose, item, Simple, anyEvent, items, Condition, term, or, Term, negate, simple, inside, Pattern, plain, bracketed, Past, only, either, Sequence, single, beside, Factor, starred, Base, pattern, nothing, group, named, place, Template, Response, pass, hold, send, anew}
 
+-- as items
 unfoldable pub itemsNames : {N : Type 0} → Items N → List N
 itemsNames close = []
 itemsNames starClose = []
@@ -44,6 +45,7 @@ unfoldable mutual
   baseNames nothing = []
   baseNames (group p) = pastNames p
 
+-- as slots
 unfoldable pub slotsNames : {N : Type 0} → Template N → List N
 slotsNames [] = []
 slotsNames (named w ∷ xs) = w ∷ slotsNames xs

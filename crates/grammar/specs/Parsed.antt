@@ -14,6 +14,7 @@ pub data Parsed (A : Type 0) : Type 0 where
   none : Parsed A
   some : A → List Token → Parsed A
 
+-- what was read, made into something else
 abbrev pub map : {A B : Type 0} → (A → B) → Parsed A → Parsed B
 map f none = none
 map f (some a ts) = some (f a) ts
@@ -49,6 +50,7 @@ placeIs (word w ∷ ts) = cond (within 13 16 (kindOf w)) (some (kindOf w - zeroK
 placeIs (mark m ∷ ts) = none
 placeIs (other o ∷ ts) = none
 
+-- nothing is left
 unfoldable pub isNone : List Token → Bool
 isNone [] = true
 isNone (t ∷ ts) = false

@@ -120,9 +120,11 @@ unfoldable pub slotsOf : ℕ → List Token → Parsed Template
 slotsOf zero ts = map (λ _. []) (markIs 62 ts)
 slotsOf (suc k) ts = choose (markIs 62 ts) (λ _ us. some [] us) (bind (slotOf ts) (λ x us. map (λ xs. x ∷ xs) (slotsOf k us)))
 
+-- < slots >
 unfoldable pub templateOf : List Token → Parsed Template
 templateOf ts = bind (markIs 60 ts) (λ _ us. slotsOf 4 us)
 
+-- pass, hold, send and a template, anew and a template
 unfoldable pub responseOf : List Token → Parsed Response
 responseOf ts =
     choose (wordIs passK ts) (λ _ us. some pass us)
@@ -142,6 +144,7 @@ headOf ts = bind (wordIs ruleK ts) (λ _ us. bind (wordIs nameK us) (λ w vs. ma
 unfoldable pub tailOf : ℕ → List Token → Parsed (Pattern × Response)
 tailOf f ts = bind (markIs 59 ts) (λ _ us. bind (patternOf f us) (λ p vs. bind (markIs 59 vs) (λ _ xs. map (λ x. (p, x)) (responseOf xs))))
 
+-- its head, a past, its tail
 unfoldable pub ruleOf : ℕ → List Token → Parsed Line
 ruleOf f ts = bind (headOf ts) (λ w us. bind (pastOf f us) (λ p vs. map (λ t. rule w p (t .0) (t .1)) (tailOf f vs)))
 
@@ -150,6 +153,7 @@ unfoldable pub namesOf : ℕ → List Token → Parsed (List (List ℕ))
 namesOf zero ts = some [] ts
 namesOf (suc k) ts = choose (wordIs nameK ts) (λ w us. map (λ ws. w ∷ ws) (namesOf k us)) (some [] ts)
 
+-- zero to four names
 unfoldable pub eventOf : List Token → Parsed Line
 eventOf ts = map event (namesOf 4 ts)
 

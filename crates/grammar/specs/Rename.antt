@@ -3,6 +3,7 @@
 use mathlib.Core.List.{[], _∷_}
 use Rattle.grammar.specs.Trees.{Item, exact, below, Items, close, starClose, item, Simple, anyEvent, items, Condition, term, or, Term, negate, simple, inside, Pattern, plain, bracketed, Past, only, either, Sequence, single, beside, Factor, starred, Base, pattern, nothing, group, named, place, Template, Response, pass, hold, send, anew}
 
+-- form by form
 unfoldable pub mapItem : {M N : Type 0} → (M → N) → Item M → Item N
 mapItem f (exact w) = exact (f w)
 mapItem f (below w) = below (f w)

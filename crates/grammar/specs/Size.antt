@@ -4,6 +4,7 @@ use Prim.Native.Nat.{ℕ, _+_}
 use Rattle.grammar.specs.Trees.{Past, only, either, Sequence, single, beside, Factor, starred, Base, pattern, nothing, group}
 
 unfoldable mutual
+  -- stars and round brackets add none
   pub sizePast : {N : Type 0} → Past N → ℕ
   sizePast (only q) = sizeSequence q
   sizePast (either q p) = sizeSequence q + sizePast p

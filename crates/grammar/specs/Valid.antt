@@ -10,6 +10,7 @@ use Rattle.grammar.specs.AsRead.{Item, exact, below, Items, close, starC
 abbrev pub IsName : List ℕ → Type 0
 IsName w = kindOf w ≡ nameK
 
+-- "a name (that role) or `+` and a name"
 unfoldable pub ValidItem : Item → Type 0
 ValidItem (exact w) = IsName w
 ValidItem (below w) = IsName w
@@ -27,6 +28,7 @@ ValidSimple anyEvent = Unit {0}
 ValidSimple (items is) = ValidItems 4 is
 
 unfoldable mutual
+  -- of each term
   pub ValidCondition : Condition → Type 0
   ValidCondition (term t) = ValidTerm t
   ValidCondition (or t c) = ValidTerm t × ValidCondition c
@@ -36,11 +38,13 @@ unfoldable mutual
   ValidTerm (simple p) = ValidSimple p
   ValidTerm (inside c) = ValidCondition c
 
+-- of either form
 unfoldable pub ValidPattern : Pattern → Type 0
 ValidPattern (plain p) = ValidSimple p
 ValidPattern (bracketed c) = ValidCondition c
 
 unfoldable mutual
+  -- of each pattern
   pub ValidPast : Past → Type 0
   ValidPast (only q) = ValidSequence q
   ValidPast (either q p) = ValidSequence q × ValidPast p

@@ -8,6 +8,7 @@ use Rattle.book.specs.Decide.{Call, Answer}
 use Rattle.book.specs.Book.{freshBook, bookStep}
 use Rattle.book.specs.Session.{answers}
 
+-- sizes added up
 abbrev pub total : List ℕ → ℕ
 total [] = 0
 total (n ∷ ns) = n + total ns

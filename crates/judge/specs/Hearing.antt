@@ -16,6 +16,7 @@ use Rattle.judge.specs.Judge.{heardEvent, turned, hearText, hear}
 use Rattle.judge.specs.declared.hearing.Verdict.{Verdict}
 use Rattle.judge.specs.declared.hearing.Heard.{Heard}
 
+-- a record that is turned away
 abbrev pub turnedAs : Verdict → Heard
 turnedAs v = record { ok = false; verdict = v; event = record { len = 0; roles = 0 ∷ 0 ∷ 0 ∷ 0 ∷ [] } }
 
@@ -28,8 +29,10 @@ HeardAs f (turned v) r = (r .ok ≡ false) × (r .verdict ≡ v)
 abbrev pub tableOf : Follower → List ℕ
 tableOf f = take (capped maxRoles (f .roles)) (f .names)
 
+-- what hearing a text promises, by the names held
 pub record TextHeard (ns s : List ℕ) (r : Heard) : Type 0 where
   pub right : (f : Follower) → Sized f → ns ≡ tableOf f → (t : Tracked) → Represents f t → length s ≤ 126 → HeardAs f (hearText (t .roles) (readEvent s)) r
 
+-- what hearing a record promises
 pub record RecordHeard (ns s : List ℕ) (r : Heard) : Type 0 where
   pub right : (f : Follower) → Sized f → ns ≡ tableOf f → (t : Tracked) → Represents f t → HeardAs f (hear (t .roles) s) r

@@ -52,6 +52,7 @@ hearFrame rs LineRecord s = turned Malformed
 hearFrame rs WrongLength s = turned Malformed
 hearFrame rs MalformedRecord s = turned Malformed
 
+-- a record heard: refusals 3, 4 and 6, or its event
 unfoldable pub hear : Roles → List ℕ → Heard
 hear rs s = hearFrame rs (frameOf s) (textOf s)
 
@@ -60,6 +61,7 @@ abbrev pub recordsOf : ℕ → List ℕ → List (List ℕ)
 recordsOf zero s = []
 recordsOf (suc n) s = take 128 s ∷ recordsOf n (drop 128 s)
 
+-- "the first refusal found is its answer"
 abbrev pub onHeard : Heard → (Event → Verdict) → Verdict
 onHeard (heardEvent e) go = go e
 onHeard (turned v) go = v
@@ -78,6 +80,7 @@ ruleAt (x ∷ l) i = cond (eqb i (length l)) (some (x .rule)) (ruleAt l i)
 unfoldable pub isWhole : List ℕ → Bool
 isWhole s = eqb (length s % 128) 0 && leb (length s) 32768
 
+-- 9, "no rule of that number"
 abbrev pub onRule : Option Rule → (Rule → Verdict) → Verdict
 onRule none go = NoRule
 onRule (some r) go = go r

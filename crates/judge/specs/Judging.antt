@@ -16,6 +16,7 @@ use Rattle.judge.specs.Hearing.{tableOf}
 use Rattle.judge.specs.declared.hearing.Verdict.{Verdict}
 use Rattle.judge.specs.declared.hearing.Verdict.the-variants.{Yes, No}
 
+-- "It otherwise says yes or no"
 abbrev pub said : Bool → Verdict
 said b = cond b Yes No
 

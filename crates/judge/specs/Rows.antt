@@ -24,10 +24,11 @@ use Rattle.judge.specs.Judge.{numberOf, recordsOf}
 use Rattle.judge.specs.declared.hearing.Verdict.{Verdict}
 use Rattle.judge.specs.declared.hearing.Verdict.the-variants.{Yes, No}
 
--- the rules of a machine with positions, and of a book, without what they have seen
+-- the rules of a machine with positions, without what they have seen
 abbrev pub rulesOf : List Followed → List Rule
 rulesOf l = map (λ x. x .rule) l
 
+-- the same of a book
 abbrev pub bookRules : Book → List Rule
 bookRules b = map (λ x. x .rule) (b .rules)
 

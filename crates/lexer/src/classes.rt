@@ -3,6 +3,7 @@ ghost use mathlib.Core.Path.{_≡_};
 ghost use lib.ListN.{getD};
 ghost use Rattle.lexer.specs.Class.{classOf, within};
 
+// "1 for space; 2 for `a` to `z`; 3 for `0` to `9`; 4 for hyphen; 5 for `: ; ( ) [ ] < > + * #`; 6 for the other bytes from 33 to 126; 0 for the rest"
 pub const CLASSES: [u8; 256] = [
     0,
     0,

@@ -26,6 +26,7 @@ pub fn rest(s: &[u8], n: usize) -> &[u8]
     &s[a..]
 }
 
+// The first token, and how many bytes are left after it.
 pub fn next(s: &[u8]) -> Lexeme
     ensures { λ r. ⌜ Next (now (s .entry)) r ⌝ }
 {

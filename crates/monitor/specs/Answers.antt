@@ -30,6 +30,7 @@ plainReply kind n name = replyOf kind n name []
 abbrev pub refusedWith : Follower → ℕ → Answered
 refusedWith f n = record { number = n; reply = plainReply RefusedKind n (packed dash); monitor = f }
 
+-- "`D` declared", 00 and the name
 abbrev pub declaredWith : Follower → ℕ → Answered
 declaredWith f name = record { number = 0; reply = plainReply DeclaredKind 0 name; monitor = f }
 
@@ -50,14 +51,17 @@ Unchanged f r = (r .number ≡ 0 → ⊥) → r ≡ refusedWith f (r .number)
 abbrev pub lineDecided : Tracked → Option Line → Decision
 lineDecided t l = decideLine (t .roles) (map trackDuty (t .rules)) l
 
+-- what answering a role line promises: the answer is that of the machine represented
 pub record RoleAnswered (f : Follower) (s : List ℕ) (r : Answered) : Type 0 where
   pub unchanged : Unchanged f r
   pub right : (t : Tracked) → Represents f t → length s ≤ 126 → (w p : List ℕ) → Says s (role w p) → Answers t (lineDecided t (some (role w p))) r
 
+-- a rule line
 pub record RuleAnswered (f : Follower) (s : List ℕ) (r : Answered) : Type 0 where
   pub unchanged : Unchanged f r
   pub right : (t : Tracked) → Represents f t → length s ≤ 126 → (w : List ℕ) (p : Past) (q : Pattern) (x : Response) → Says s (rule w p q x) → Answers t (lineDecided t (some (rule w p q x))) r
 
+-- the text of any line, refusal 4 included
 pub record LineAnswered (f : Follower) (s : List ℕ) (r : Answered) : Type 0 where
   pub unchanged : Unchanged f r
   pub right : (t : Tracked) → Represents f t → length s ≤ 126 → Answers t (lineDecided t (readLine s)) r

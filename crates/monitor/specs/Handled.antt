@@ -32,6 +32,7 @@ pub record Right (t : Tracked) (c : Call) (left : List ℕ) (r : Handled) : Type
   pub answered : trackStep t c .1 ≡ record { number = r .number; buffer = left }
   pub monitor : Represents (r .monitor) (trackStep t c .0)
 
+-- what a call promises: of a refusal, of any monitor; and of the answer, of one that represents a machine
 pub record Handles (f : Follower) (bytes lent left : List ℕ) (r : Handled) : Type 0 where
   pub refused : (r .number ≡ 0 → ⊥) → Refused f lent left r
   pub right : (t : Tracked) → Represents f t → Right t (record { bytes = bytes; buffer = lent }) left r

@@ -48,15 +48,18 @@ AfterWork f (held i n) m = m ≡ f
 AfterWork f (unfit i n) m = m ≡ f
 AfterWork f (tooLong i) m = m ≡ f
 
+-- what answering an outcome promises
 pub record OutcomeAnswered (f : Follower) (o : Outcome) (r : Answered) : Type 0 where
   pub number : r .number ≡ 0
   pub reply : (x : work.Outcome ℕ ℕ) → Ends o x → o .worked ≤ 64 → r .reply ≡ outcomeReply (mapOutcome (nameAt f) (ruleNameAt f) x)
   pub monitor : AfterWork f (outcomeOf o) (r .monitor)
 
+-- an event in the language
 pub record EventAnswered (f : Follower) (s : List ℕ) (r : Answered) : Type 0 where
   pub unchanged : Unchanged f r
   pub right : (t : Tracked) → Represents f t → length s ≤ 126 → (ws : List (List ℕ)) → Says s (event ws) → Answers t (lineDecided t (some (event ws))) r
 
+-- the text of any event, refusal 4 included
 pub record TextAnswered (f : Follower) (s : List ℕ) (r : Answered) : Type 0 where
   pub unchanged : Unchanged f r
   pub right : (t : Tracked) → Represents f t → length s ≤ 126 → Answers t (lineDecided t (readEvent s)) r

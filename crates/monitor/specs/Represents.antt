@@ -5,7 +5,7 @@ use mathlib.Core.Path.{_≡_}
 use mathlib.Core.List.{List, [], _∷_}
 use Prim.Native.Nat.{ℕ, suc, _≤_, _<_}
 use lib.Dec.{eqb}
-use lib.ListN.{length, getD}
+use lib.ListN.{getD}
 use Rattle.lexer.specs.Words.{same, kindOf, nameK}
 use Rattle.lexer.proofs.WordLaws.{Wordy}
 use Rattle.grammar.specs.Rename.{mapPast, mapPattern, mapResponse}
@@ -18,6 +18,7 @@ use Rattle.patterns.specs.All.{All}
 use Rattle.patterns.specs.Table.{Ordered, rolesOf}
 use Rattle.follow.specs.Rules.{Tree, Keeps}
 use Rattle.follow.specs.State.{noRule, maxRoles, maxRules}
+pub use Rattle.follow.specs.State.{Sized}
 use Rattle.follow.specs.declared.state.Follower.{Follower}
 use Rattle.chain.specs.Duties.{Short}
 use Rattle.book.specs.Names.{Name}
@@ -35,13 +36,6 @@ ruleNameAt f i = unpacked (getD (f .rules) i noRule .name)
 pub record NameWord (w : Name) : Type 0 where
   pub name : kindOf w ≡ nameK
   pub wordy : Wordy w
-
--- the arrays have their lengths, which every call knows by their types
-pub record Sized (f : Follower) : Type 0 where
-  pub names : length (f .names) ≡ 64
-  pub parents : length (f .parents) ≡ 64
-  pub positions : length (f .positions) ≡ 32
-  pub rules : length (f .rules) ≡ 32
 
 -- the roles: distinct names, each parent before its child
 pub record Naming (f : Follower) : Type 0 where
@@ -71,6 +65,7 @@ pub data Rules (f : Follower) : ℕ → List Followed → Type 0 where
   rules-none : Rules f 0 []
   rules-more : {n : ℕ} {r : Followed} {l : List Followed} → RuleIs f n r → Rules f n l → Rules f (suc n) (r ∷ l)
 
+-- a state stands for a machine with positions: the same roles by their names, the same rules by their trees and positions
 pub record Represents (f : Follower) (t : Tracked) : Type 0 where
   pub naming : Naming f
   pub few : f .count ≤ maxRules

@@ -96,6 +96,11 @@ module _ {N : Type 0} (o o′ : Order N) (E P : N → Type 0)
     meets-agree (plain p) k = simple-agree p k
     meets-agree (bracketed c) k = condition-agree c k
 
+-- nothing is asked of any element
+pub any-all : {A : Type 0} (l : List A) → All (λ a. Unit {0}) l
+any-all [] = tt
+any-all (a ∷ l) = (tt, any-all l)
+
 -- A later role alters `meets` for no event of roles held before.
 module _ {N : Type 0} (eq : N → N → Bool) (lawful : Lawful eq) (r : Role N) (rs : Roles N) (new : isHeld eq rs (r .name) ≡ false) where
   abbrev Was : N → Type 0
@@ -104,10 +109,6 @@ module _ {N : Type 0} (eq : N → N → Bool) (lawful : Lawful eq) (r : Role N) 
   held-all : (e : List N) → allHeld eq rs e ≡ true → All Was e
   held-all [] h = tt
   held-all (n ∷ e) h = (and-left (isHeld eq rs n) (allHeld eq rs e) h, held-all e (and-right (isHeld eq rs n) (allHeld eq rs e) h))
-
-  any-all : (l : List N) → All (λ n. Unit {0}) l
-  any-all [] = tt
-  any-all (n ∷ l) = (tt, any-all l)
 
   pub meets-later : (e : List N) → allHeld eq rs e ≡ true → (p : Pattern N) → meets (orderOf eq (r ∷ rs)) e p ≡ meets (orderOf eq rs) e p
   meets-later e h p =

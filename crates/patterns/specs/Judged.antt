@@ -21,6 +21,7 @@ orderIn ps = record { is = λ r p. eqb r p; under = λ r p. belowIn ps r p }
 abbrev pub onward : ℕ → ℕ → ℕ
 onward i n = cond (ltb i n) (i + 1) i
 
+-- role r is p or, where under is true, below it
 abbrev pub isOf : List ℕ → Bool → ℕ → ℕ → Bool
 isOf ps true p r = belowIn ps r p
 isOf ps false p r = eqb r p
@@ -39,16 +40,19 @@ pub record ItemsRead (ps event : List ℕ) (i : ℕ) (code : List ℕ) (at : ℕ
   pub right : (xs : Items ℕ) (rest : List ℕ) → drop at code ≡ codeItems xs ++ rest
       → (r .ok ≡ itemsMeet (orderIn ps) (drop i event) xs) × (r .end ≡ at + length (codeItems xs))
 
+-- a term
 pub record TermRead (ps event code : List ℕ) (at : ℕ) (r : Judged) : Type 0 where
   pub onwards : at ≤ r .end
   pub right : (t : Term ℕ) (rest : List ℕ) → drop at code ≡ codeTerm t ++ rest
       → (r .ok ≡ termMeets (orderIn ps) event t) × (r .end ≡ at + length (codeTerm t))
 
+-- a condition, where no or follows it
 pub record ConditionRead (ps event code : List ℕ) (at : ℕ) (r : Judged) : Type 0 where
   pub onwards : at ≤ r .end
   pub right : (c : Condition ℕ) (rest : List ℕ) → Ended rest → drop at code ≡ codeCondition c ++ rest
       → (r .ok ≡ conditionMeets (orderIn ps) event c) × (r .end ≡ at + length (codeCondition c))
 
+-- a pattern; where the code has a byte more, at least that one is read
 pub record PatternRead (ps event code : List ℕ) (at : ℕ) (r : Judged) : Type 0 where
   pub onwards : at ≤ r .end
   pub moves : at < length code → at < r .end

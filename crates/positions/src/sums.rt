@@ -17,6 +17,7 @@ pub struct Sums {
     pub last: u64,
 }
 
+// Two functions for `&&` and `||`: a branch would lose what each side showed.
 fn both(a: bool, b: bool) -> bool
     ensures { λ r. ⌜ r ≡ a && b ⌝ }
 {

@@ -23,6 +23,7 @@ fn none() -> Decoded {
     }
 }
 
+// A byte as a number.
 fn wide(b: u8) -> usize {
     b as usize
 }

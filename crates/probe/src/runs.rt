@@ -7,6 +7,7 @@ use follow::state::capped;
 ghost use mathlib.Core.Path.{_≡_};
 ghost use mathlib.Core.Bool.{cond};
 
+// 1 for true.
 fn bit(b: bool) -> u8
     ensures { λ r. ⌜ r ≡ cond b 1 0 ⌝ }
 {
@@ -71,6 +72,7 @@ pub fn digest(f: Follower) -> u64 {
     sum
 }
 
+// A rule's positions mixed into the digest; both are cut to 56 bits, so that nothing wraps.
 fn mixed(sum: u64, positions: u64) -> u64 {
     sum % 72057594037927936 * 31 + positions % 72057594037927936
 }

@@ -19,6 +19,7 @@ pub fn byte(b: u8) {
     say(&[b]);
 }
 
+// A byte that is not printed as it is.
 fn hexadecimal(b: u8) {
     say(b"{");
     io::print_hex(STDOUT_FILENO, b as u64, 2);

@@ -2,6 +2,7 @@
 ghost use mathlib.Core.Path.{_≡_};
 ghost use Rattle.reply.specs.Kinds.{letterOf};
 
+// "`D` declared, `C` committed, `H` held, `U` unfit, `T` too long, `R` refused"
 pub enum Kind {
     Declared,
     Committed,

@@ -40,6 +40,7 @@ fn first_other(reply: &[u8; 50], stored: &[u8; 50]) -> u64 {
     50
 }
 
+// A byte as a number.
 fn wide(x: u8) -> u64
     ensures { λ r. ⌜ r < 256 ⌝ }
 {

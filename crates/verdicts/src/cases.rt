@@ -27,6 +27,7 @@ fn say(s: &[u8]) {
     io::write_all(STDOUT_FILENO, s);
 }
 
+// 1 for true.
 fn one(b: bool) -> u64 {
     if b { 1 } else { 0 }
 }

@@ -1,6 +1,7 @@
 // The fields of a case's record.
 ghost use Prim.Native.Nat.{_<_};
 
+// A byte as a number.
 fn wide(x: u8) -> usize
     ensures { λ r. ⌜ r < 256 ⌝ }
 {

@@ -15,7 +15,7 @@ use Rattle.patterns.specs.All.{All}
 use Rattle.patterns.specs.Table.{upTo, belowIn}
 use Rattle.patterns.specs.Meets.{meets}
 use Rattle.patterns.specs.Judged.{orderIn}
-use Rattle.patterns.proofs.MeetsLaws.{all-left, all-right, meets-agree}
+use Rattle.patterns.proofs.MeetsLaws.{all-left, all-right, meets-agree, any-all}
 use Rattle.positions.specs.Past.{Past, Sat, sat-pat, sat-empty, sat-seq, sat-left, sat-right, sat-stop, sat-more}
 use Rattle.follow.specs.Follows.{EventsHeld}
 
@@ -33,10 +33,6 @@ cut (suc k) ps n r p l h =
 below-cut : (ps : List ℕ) (n r p : ℕ) → n ≤ length ps → r < n → belowIn (take n ps) r p ≡ belowIn ps r p
 unfolding belowIn
 below-cut ps n r p l h = cut (suc r) ps n r p l h
-
-any : (l : List ℕ) → All (λ n. Unit {0}) l
-any [] = tt
-any (n ∷ l) = (tt, any l)
 
 -- two tests that agree on an event
 abbrev Agrees : (List ℕ → Pattern ℕ → Bool) → (List ℕ → Pattern ℕ → Bool) → List ℕ → Type 0
@@ -61,7 +57,7 @@ module _ (ps : List ℕ) (n : ℕ) (fits : n ≤ length ps) where
 
   meets-cut : (e : List ℕ) → All (λ i. i < n) e → Agrees short long e
   meets-cut e h p =
-      meets-agree (orderIn (take n ps)) (orderIn ps) (λ i. i < n) (λ j. Unit {0}) (λ a b k u. refl) (λ a b k u. below-cut ps n a b fits k) e h p (any (patternNames p))
+      meets-agree (orderIn (take n ps)) (orderIn ps) (λ i. i < n) (λ j. Unit {0}) (λ a b k u. refl) (λ a b k u. below-cut ps n a b fits k) e h p (any-all (patternNames p))
 
   agree : (l : List (List ℕ)) → EventsHeld n l → All (Agrees short long) l
   agree [] h = tt

@@ -35,6 +35,7 @@ numberOf (refused n) = n
 numberOf (declared x m) = 0
 numberOf (committed m) = 0
 
+-- the name declared; else `-`
 abbrev pub nameOf : Decision → ℕ
 nameOf (refused n) = packed dash
 nameOf (declared x m) = x
@@ -44,6 +45,7 @@ nameOf (committed m) = packed dash
 abbrev pub refusedWith : Follower → ℕ → Answer
 refusedWith f n = record { letter = 82; number = n; name = packed dash; follower = f }
 
+-- "`D` declared", 00 and the name
 abbrev pub declaredWith : Follower → ℕ → Answer
 declaredWith f name = record { letter = 68; number = 0; name = name; follower = f }
 
@@ -62,14 +64,17 @@ pub record Answers (m : Film) (d : Decision) (r : Answer) : Type 0 where
 unfoldable pub Unchanged : Follower → Answer → Type 0
 Unchanged f r = (r .number ≡ 0 → ⊥) → r ≡ refusedWith f (r .number)
 
+-- what taking a role line promises: the answer is that of the film
 pub record RoleTaken (f : Follower) (s : List ℕ) (r : Answer) : Type 0 where
   pub unchanged : Unchanged f r
   pub right : (m : Film) → Stands f m → (w p : List ℕ) → Says s (role w p) → Answers m (decideLine m (some (role w p))) r
 
+-- a rule line
 pub record RuleTaken (f : Follower) (s : List ℕ) (r : Answer) : Type 0 where
   pub unchanged : Unchanged f r
   pub right : (m : Film) → Stands f m → length s ≤ 126 → (w : List ℕ) (p : Past) (t : Pattern) (x : Response) → Says s (rule w p t x) → Answers m (decideLine m (some (rule w p t x))) r
 
+-- the text of any line, refusal 4 included
 pub record LineTaken (f : Follower) (s : List ℕ) (r : Answer) : Type 0 where
   pub unchanged : Unchanged f r
   pub right : (m : Film) → Stands f m → length s ≤ 126 → Answers m (decideLine m (readLine s)) r
@@ -81,14 +86,17 @@ pub record EventTaken (f : Follower) (e : Event) (r : Answer) : Type 0 where
   pub name : r .name ≡ packed dash
   pub follower : Committed f (eventOf e) (r .follower)
 
+-- an event in the language
 pub record EventTextTaken (f : Follower) (s : List ℕ) (r : Answer) : Type 0 where
   pub unchanged : Unchanged f r
   pub right : (m : Film) → Stands f m → length s ≤ 126 → (ws : List (List ℕ)) → Says s (event ws) → Answers m (decideLine m (some (event ws))) r
 
+-- the text of any event, refusal 4 included
 pub record ActTaken (f : Follower) (s : List ℕ) (r : Answer) : Type 0 where
   pub unchanged : Unchanged f r
   pub right : (m : Film) → Stands f m → length s ≤ 126 → Answers m (decideLine m (readEvent s)) r
 
+-- any record
 pub record RecordTaken (f : Follower) (s : List ℕ) (r : Answer) : Type 0 where
   pub unchanged : Unchanged f r
   pub right : (m : Film) → Stands f m → Answers m (decide m s) r

@@ -15,6 +15,7 @@ pub record Row : Type 0 where
   pub text : String
   pub line : String
 
+-- a record's text and the line that is written of it
 abbrev pub row : String → String → Row
 row s l = record { text = s; line = l }
 

@@ -31,6 +31,7 @@ orDash (b ∷ l) = b ∷ l
 abbrev pub openingOf : ℕ → ℕ → List ℕ
 openingOf letter n = letter ∷ 32 ∷ (n / 10 + 48) ∷ (n % 10 + 48) ∷ 32 ∷ []
 
+-- the columns of a line, and what stands after them
 unfoldable pub lineWith : ℕ → ℕ → ℕ → List ℕ → List ℕ
 lineWith letter n name rest = openingOf letter n ++ (columnsOf name ++ (32 ∷ 124 ∷ (rest ++ (10 ∷ []))))
 
@@ -57,6 +58,7 @@ textOf s = take (s .len) (s .bytes)
 pub record Adds (s : Shown) (w : List ℕ) (r : Shown) : Type 0 where
   pub right : s .len + length w ≤ 320 → (r .len ≡ s .len + length w) × (textOf r ≡ textOf s ++ w)
 
+-- a line begun
 pub record Starts (letter n : ℕ) (r : Shown) : Type 0 where
   pub len : r .len ≡ 5
   pub text : textOf r ≡ openingOf letter n

@@ -3,19 +3,13 @@
 use mathlib.Core.Path.{_≡_}
 use mathlib.Core.List.{List, [], _∷_}
 use Prim.Native.Nat.{ℕ, suc, _≤_}
-use lib.ListN.{length, take, getD}
+use lib.ListN.{take, getD}
 use Rattle.follow.specs.Rules.{Tree}
 use Rattle.follow.specs.State.{maxRoles, maxRules, noRule}
+pub use Rattle.follow.specs.State.{Sized}
 use Rattle.follow.specs.Follows.{Follows}
 use Rattle.follow.specs.declared.state.Follower.{Follower}
 use Rattle.viewer.specs.Film.{Watched, Film}
-
--- the arrays have their lengths, which every call knows by their types
-pub record Sized (f : Follower) : Type 0 where
-  pub names : length (f .names) ≡ 64
-  pub parents : length (f .parents) ≡ 64
-  pub positions : length (f .positions) ≡ 32
-  pub rules : length (f .rules) ≡ 32
 
 -- rule i is r: its past is followed over r's events
 pub record RuleIs (f : Follower) (i : ℕ) (r : Watched) : Type 0 where
@@ -29,6 +23,7 @@ pub data Rules (f : Follower) : ℕ → List Watched → Type 0 where
   rules-none : Rules f 0 []
   rules-more : {n : ℕ} {r : Watched} {l : List Watched} → RuleIs f n r → Rules f n l → Rules f (suc n) (r ∷ l)
 
+-- a follower stands for a film: the same tables, and the same rules one by one
 pub record Stands (f : Follower) (m : Film) : Type 0 where
   pub few : f .roles ≤ maxRoles
   pub most : f .count ≤ maxRules
