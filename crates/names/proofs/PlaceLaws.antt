@@ -1,16 +1,18 @@
 -- Laws of the place of a packed name among those held.
 -- Assumes nothing.
-use mathlib.Core.Path.{_≡_, refl}
-use mathlib.Core.Bool.{Bool, true, false}
+use mathlib.Core.Path.{_≡_, refl, sym}
+use mathlib.Core.Bool.{Bool, true, false, _||_}
 use mathlib.Core.List.{List, [], _∷_}
 use mathlib.Core.Logic.{_↔_}
-use Prim.Native.Nat.{ℕ, zero, suc, _<_, _≤_}
+use Prim.Native.Nat.{ℕ, zero, suc, _<_, _≤_, compare·suc-suc}
 use native.Mathlib.Omega.{arith}
-use lib.Dec.{eqb}
+use lib.Dec.{eqb, ltb}
 use lib.ListN.{length, getD}
-use borrow.Author.Tests.{eqb-true, eqb-false, eq-eqb, ne-eqb}
+use borrow.Author.Tests.{eqb-true, eqb-false, eq-eqb, ne-eqb, lt-ltb, le-ltb}
+use Rattle.lexer.specs.Class.{among}
 use Rattle.lexer.specs.Run.{run}
-use Rattle.names.specs.Place.{differs, place}
+use Rattle.names.specs.Name.{packed}
+use Rattle.names.specs.Place.{differs, place, held}
 
 module _ (x : ℕ) where
   -- one step along the list
@@ -44,3 +46,15 @@ module _ (x : ℕ) where
   -- a place below the length is exactly a name in the list
   pub place-exactly : (ns : List ℕ) → (place x ns < length ns) ↔ ((k : ℕ) × (k < length ns) × (getD ns k 0 ≡ x))
   place-exactly ns = (λ h. (place x ns, h, place-holds ns h), λ h. omega (arith, place-found ns (h .0) (h .1) (h .2), h .1))
+
+  pub place-among : (ns : List ℕ) → ltb (place x ns) (length ns) ≡ among x ns
+  place-among [] = le-ltb (place x []) 0 (omega arith)
+  place-among (n ∷ ns) = go (eqb n x) refl (place-among ns)
+    where
+      go : (b : Bool) → eqb n x ≡ b → ltb (place x ns) (length ns) ≡ among x ns → ltb (place x (n ∷ ns)) (suc (length ns)) ≡ eqb x n || among x ns
+      go true e ih = let p = eqb-true n x e in rw (place-here n ns p, eq-eqb x n (sym p)) (lt-ltb 0 (suc (length ns)) (omega arith))
+      go false e ih = let p = eqb-false n x e in rw (place-later n ns p, compare·suc-suc, ne-eqb x n (λ q. p (sym q))) ih
+
+-- "a name is among those held", said of the entries one by one
+pub held-among : (ns w : List ℕ) → held ns w ≡ among (packed w) ns
+held-among ns w = place-among (packed w) ns
