@@ -14,7 +14,7 @@ use borrow.Author.Tests.{ltb-true, ltb-false, le-ltb, le-leb, lt-leb}
 use Rattle.grammar.specs.Trees.{Item, exact, below, Items, close, starClose, item}
 use Rattle.code.specs.Trees.{codeItems}
 use Rattle.patterns.specs.Meets.{itemMeets, itemsMeet}
-use Rattle.patterns.specs.Judged.{orderIn, onward, isOf, roleAt, ItemsRead}
+use Rattle.patterns.specs.Judged.{orderIn, onward, isOf, roleAt, bothOf, ItemsRead}
 use Rattle.patterns.specs.declared.judge.Judged.{Judged}
 use Rattle.patterns.proofs.Here.{none, here}
 
@@ -89,12 +89,11 @@ module _ (ps event : List ℕ) (i : ℕ) (code : List ℕ) (at : ℕ) where
       go (item (below p) xs) rest e = let h = here code at _ _ e in absurd (none code (at + 1) _ _ l (h .next))
 
   pub unders : getD code at 0 ≡ 43 → (n : ℕ) → n ≡ onward i (length event) → (r : Judged) → ItemsRead ps event n code (at + 1 + 1) r
-      → (w ok : Bool) → w ≡ roleAt ps true (getD code (at + 1) 0) event i → ok ≡ (w && (r .ok))
-      → ItemsRead ps event i code at (record { end = r .end; ok = ok })
+      → (w : Bool) → w ≡ roleAt ps true (getD code (at + 1) 0) event i → ItemsRead ps event i code at (bothOf w r)
   unfolding codeItems
-  unders b n en r ih w ok ew eo = record { onwards = let p = ih .onwards in omega arith; right = go }
+  unders b n en r ih w ew = record { onwards = let p = ih .onwards in omega arith; right = go }
     where
-      go : (xs : Items ℕ) (rest : List ℕ) → drop at code ≡ codeItems xs ++ rest → (ok ≡ itemsMeet (orderIn ps) (drop i event) xs) × (r .end ≡ at + length (codeItems xs))
+      go : (xs : Items ℕ) (rest : List ℕ) → drop at code ≡ codeItems xs ++ rest → ((w && r .ok) ≡ itemsMeet (orderIn ps) (drop i event) xs) × (r .end ≡ at + length (codeItems xs))
       go starClose rest e = let h = here code at _ _ e in absurd (omega arith)
       go close rest e = let h = here code at _ _ e in absurd (omega arith)
       go (item (exact p) xs) rest e = let h = here code at _ _ e in absurd (omega arith)
@@ -102,23 +101,22 @@ module _ (ps event : List ℕ) (i : ℕ) (code : List ℕ) (at : ℕ) where
           let h = here code at _ _ e in
           let h' = here code (at + 1) _ _ (h .next) in
           let d = ih .right xs rest (h' .next) in (
-            eo ∙ ap (λ (z : Bool). (z && (r .ok))) ew ∙ role-step ps event i true p _ (r .ok) (h' .byte) ∙ ap (λ (z : Bool). ((cond (ltb i (length event)) (isOf ps true p (getD event i 0)) false) && z)) (d .0 ∙ ap (λ (z : ℕ). itemsMeet (orderIn ps) (drop z event) xs) en) ∙ list-step ps event i (below p) xs,
+            ap (λ (z : Bool). (z && (r .ok))) ew ∙ role-step ps event i true p _ (r .ok) (h' .byte) ∙ ap (λ (z : Bool). ((cond (ltb i (length event)) (isOf ps true p (getD event i 0)) false) && z)) (d .0 ∙ ap (λ (z : ℕ). itemsMeet (orderIn ps) (drop z event) xs) en) ∙ list-step ps event i (below p) xs,
             omega (arith, d .1),
           )
 
   pub sames : (getD code at 0 ≡ 62 → ⊥) → (getD code at 0 ≡ 42 → ⊥) → (getD code at 0 ≡ 43 → ⊥) → (n : ℕ) → n ≡ onward i (length event) → (r : Judged) → ItemsRead ps event n code (at + 1) r
-      → (w ok : Bool) → w ≡ roleAt ps false (getD code at 0) event i → ok ≡ (w && (r .ok))
-      → ItemsRead ps event i code at (record { end = r .end; ok = ok })
+      → (w : Bool) → w ≡ roleAt ps false (getD code at 0) event i → ItemsRead ps event i code at (bothOf w r)
   unfolding codeItems
-  sames n₁ n₂ n₃ n en r ih w ok ew eo = record { onwards = let p = ih .onwards in omega arith; right = go }
+  sames n₁ n₂ n₃ n en r ih w ew = record { onwards = let p = ih .onwards in omega arith; right = go }
     where
-      go : (xs : Items ℕ) (rest : List ℕ) → drop at code ≡ codeItems xs ++ rest → (ok ≡ itemsMeet (orderIn ps) (drop i event) xs) × (r .end ≡ at + length (codeItems xs))
+      go : (xs : Items ℕ) (rest : List ℕ) → drop at code ≡ codeItems xs ++ rest → ((w && r .ok) ≡ itemsMeet (orderIn ps) (drop i event) xs) × (r .end ≡ at + length (codeItems xs))
       go starClose rest e = absurd (n₂ (here code at _ _ e .byte))
       go close rest e = absurd (n₁ (here code at _ _ e .byte))
       go (item (exact p) xs) rest e =
           let h = here code at _ _ e in
           let d = ih .right xs rest (h .next) in (
-            eo ∙ ap (λ (z : Bool). (z && (r .ok))) ew ∙ role-step ps event i false p _ (r .ok) (h .byte) ∙ ap (λ (z : Bool). ((cond (ltb i (length event)) (isOf ps false p (getD event i 0)) false) && z)) (d .0 ∙ ap (λ (z : ℕ). itemsMeet (orderIn ps) (drop z event) xs) en) ∙ list-step ps event i (exact p) xs,
+            ap (λ (z : Bool). (z && (r .ok))) ew ∙ role-step ps event i false p _ (r .ok) (h .byte) ∙ ap (λ (z : Bool). ((cond (ltb i (length event)) (isOf ps false p (getD event i 0)) false) && z)) (d .0 ∙ ap (λ (z : ℕ). itemsMeet (orderIn ps) (drop z event) xs) en) ∙ list-step ps event i (exact p) xs,
             omega (arith, d .1),
           )
       go (item (below p) xs) rest e = absurd (n₃ (here code at _ _ e .byte))

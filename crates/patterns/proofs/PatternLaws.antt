@@ -1,15 +1,17 @@
 -- What each way through a pattern shows.
 -- Assumes nothing.
 use mathlib.Core.Path.{_≡_, refl}
-use mathlib.Core.Bool.{Bool, true, false}
+use mathlib.Core.Bool.{Bool, true, false, cond}
 use mathlib.Core.List.{List, [], _∷_, _++_}
 use Prim.Native.Nat.{ℕ, _+_, _≤_}
 use native.Mathlib.Omega.{arith}
+use lib.Dec.{leb}
+use borrow.Author.Tests.{leb-true}
 use lib.ListN.{length, getD, drop, length-append}
 use Rattle.grammar.specs.Trees.{anyEvent, items, Pattern, plain, bracketed}
 use Rattle.code.specs.Trees.{codeSimple, codeCondition, codePattern}
 use Rattle.patterns.specs.Meets.{itemsMeet, meets}
-use Rattle.patterns.specs.Judged.{orderIn, ItemsRead, ConditionRead, PatternRead}
+use Rattle.patterns.specs.Judged.{orderIn, bracketedOf, ItemsRead, ConditionRead, PatternRead}
 use Rattle.patterns.specs.declared.judge.Judged.{Judged}
 use Rattle.patterns.proofs.Here.{none, here}
 use Rattle.patterns.proofs.TermLaws.{within}
@@ -53,7 +55,7 @@ module _ (ps event code : List ℕ) (at : ℕ) where
       go (bracketed c) rest e = let h = here code at _ _ e in absurd (omega arith)
 
   module _ (n₂ : getD code at 0 ≡ 97 → ⊥) (n₃ : getD code at 0 ≡ 60 → ⊥) (r : Judged) (ih : ConditionRead ps event code (at + 1) r) where
-    pub open-pattern : length code ≤ r .end → PatternRead ps event code at (record { end = r .end; ok = false })
+    open-pattern : length code ≤ r .end → PatternRead ps event code at (record { end = r .end; ok = false })
     unfolding codePattern codeSimple
     open-pattern l = record { onwards = let p = ih .onwards in omega arith; moves = λ l. let p = ih .onwards in omega arith; right = go }
       where
@@ -62,7 +64,7 @@ module _ (ps event code : List ℕ) (at : ℕ) where
         go (plain (items xs)) rest e = absurd (n₃ (here code at _ _ e .byte))
         go (bracketed c) rest e = absurd (none code (r .end) _ _ l (within ps event code at r ih 91 93 (λ z. absurd (omega arith)) c rest e .2))
 
-    pub group-pattern : PatternRead ps event code at (record { end = r .end + 1; ok = r .ok })
+    group-pattern : PatternRead ps event code at (record { end = r .end + 1; ok = r .ok })
     unfolding codePattern codeSimple meets itemsMeet
     group-pattern = record { onwards = let p = ih .onwards in omega arith; moves = λ l. let p = ih .onwards in omega arith; right = go }
       where
@@ -70,3 +72,10 @@ module _ (ps event code : List ℕ) (at : ℕ) where
         go (plain anyEvent) rest e = absurd (n₂ (here code at _ _ e .byte))
         go (plain (items xs)) rest e = absurd (n₃ (here code at _ _ e .byte))
         go (bracketed c) rest e = let d = within ps event code at r ih 91 93 (λ z. absurd (omega arith)) c rest e in (d .0, omega (arith, d .1, length-append (codeCondition c) (93 ∷ [])))
+
+    pub bracket-pattern : PatternRead ps event code at (bracketedOf code r)
+    bracket-pattern = by (leb (length code) (r .end)) refl
+      where
+        by : (b : Bool) → leb (length code) (r .end) ≡ b → PatternRead ps event code at (cond b (record { end = r .end; ok = false }) (record { end = r .end + 1; ok = r .ok }))
+        by true h = open-pattern (leb-true (length code) (r .end) h)
+        by false h = group-pattern

@@ -1,15 +1,17 @@
 -- What each way through a condition and its terms shows.
 -- Assumes nothing.
 use mathlib.Core.Path.{_≡_, refl, sym, ap, _∙_}
-use mathlib.Core.Bool.{Bool, true, false, not, _||_}
+use mathlib.Core.Bool.{Bool, true, false, not, cond, _||_}
 use mathlib.Core.List.{List, [], _∷_, _++_, append-assoc}
 use Prim.Native.Nat.{ℕ, _+_, _≤_}
 use native.Mathlib.Omega.{arith}
+use lib.Dec.{leb}
+use borrow.Author.Tests.{leb-true}
 use lib.ListN.{length, getD, drop, length-append}
 use Rattle.grammar.specs.Trees.{anyEvent, items, Condition, term, or, Term, negate, simple, inside}
 use Rattle.code.specs.Trees.{codeSimple, codeCondition, codeTerm}
 use Rattle.patterns.specs.Meets.{itemsMeet, termMeets, conditionMeets}
-use Rattle.patterns.specs.Judged.{orderIn, Ended, ItemsRead, TermRead, ConditionRead}
+use Rattle.patterns.specs.Judged.{orderIn, eitherOf, notOf, bracketedOf, Ended, ItemsRead, TermRead, ConditionRead}
 use Rattle.patterns.specs.declared.judge.Judged.{Judged}
 use Rattle.patterns.proofs.Here.{none, here, beyond, first}
 
@@ -24,7 +26,7 @@ module _ (ps event code : List ℕ) (at : ℕ) where
       go (negate t) rest e = absurd (none code at _ _ h e)
       go (inside c) rest e = absurd (none code at _ _ h e)
 
-  pub not-term : getD code at 0 ≡ 110 → (r : Judged) → TermRead ps event code (at + 1) r → TermRead ps event code at (record { end = r .end; ok = not (r .ok) })
+  pub not-term : getD code at 0 ≡ 110 → (r : Judged) → TermRead ps event code (at + 1) r → TermRead ps event code at (notOf r)
   unfolding codeTerm codeSimple termMeets conditionMeets
   not-term b r ih = record { onwards = let p = ih .onwards in omega arith; right = go }
     where
@@ -65,7 +67,7 @@ module _ (ps event code : List ℕ) (at : ℕ) where
       (d .0, d .1, beyond code (at + 1) (r .end) (codeCondition c) (q ∷ rest) f (d .1))
 
   module _ (n₁ : getD code at 0 ≡ 110 → ⊥) (n₂ : getD code at 0 ≡ 97 → ⊥) (n₃ : getD code at 0 ≡ 60 → ⊥) (r : Judged) (ih : ConditionRead ps event code (at + 1) r) where
-    pub open-term : length code ≤ r .end → TermRead ps event code at (record { end = r .end; ok = false })
+    open-term : length code ≤ r .end → TermRead ps event code at (record { end = r .end; ok = false })
     unfolding codeTerm codeSimple
     open-term l = record { onwards = let p = ih .onwards in omega arith; right = go }
       where
@@ -75,7 +77,7 @@ module _ (ps event code : List ℕ) (at : ℕ) where
         go (negate t) rest e = absurd (n₁ (here code at _ _ e .byte))
         go (inside c) rest e = absurd (none code (r .end) _ _ l (within r ih 40 41 (λ z. absurd (omega arith)) c rest e .2))
 
-    pub group-term : TermRead ps event code at (record { end = r .end + 1; ok = r .ok })
+    group-term : TermRead ps event code at (record { end = r .end + 1; ok = r .ok })
     unfolding codeTerm codeSimple termMeets conditionMeets
     group-term = record { onwards = let p = ih .onwards in omega arith; right = go }
       where
@@ -84,6 +86,13 @@ module _ (ps event code : List ℕ) (at : ℕ) where
         go (simple (items xs)) rest e = absurd (n₃ (here code at _ _ e .byte))
         go (negate t) rest e = absurd (n₁ (here code at _ _ e .byte))
         go (inside c) rest e = let d = within r ih 40 41 (λ z. absurd (omega arith)) c rest e in (d .0, omega (arith, d .1, length-append (codeCondition c) (41 ∷ [])))
+
+    pub bracket-term : TermRead ps event code at (bracketedOf code r)
+    bracket-term = by (leb (length code) (r .end)) refl
+      where
+        by : (b : Bool) → leb (length code) (r .end) ≡ b → TermRead ps event code at (cond b (record { end = r .end; ok = false }) (record { end = r .end + 1; ok = r .ok }))
+        by true h = open-term (leb-true (length code) (r .end) h)
+        by false h = group-term
 
   -- ---- a condition begins with a term
   module _ (s : Judged) (it : TermRead ps event code at s) where
@@ -110,18 +119,17 @@ module _ (ps event code : List ℕ) (at : ℕ) where
         go (term t) rest n e = it .right t rest e
         go (or t c) rest n e = absurd (b (here code (s .end) _ _ (at-or t c rest e .2) .byte))
 
-    pub or-cond : getD code (s .end) 0 ≡ 111 → (r : Judged) → ConditionRead ps event code (s .end + 1) r → (ok : Bool) → ok ≡ ((s .ok) || (r .ok))
-        → ConditionRead ps event code at (record { end = r .end; ok = ok })
+    pub or-cond : getD code (s .end) 0 ≡ 111 → (r : Judged) → ConditionRead ps event code (s .end + 1) r → ConditionRead ps event code at (eitherOf (s .ok) r)
     unfolding codeCondition codeSimple conditionMeets termMeets Ended
-    or-cond b r ih ok eo = record { onwards = let p = it .onwards in let p' = ih .onwards in omega arith; right = go }
+    or-cond b r ih = record { onwards = let p = it .onwards in let p' = ih .onwards in omega arith; right = go }
       where
-        go : (c : Condition ℕ) (rest : List ℕ) → Ended rest → drop at code ≡ codeCondition c ++ rest → (ok ≡ conditionMeets (orderIn ps) event c) × (r .end ≡ at + length (codeCondition c))
+        go : (c : Condition ℕ) (rest : List ℕ) → Ended rest → drop at code ≡ codeCondition c ++ rest → ((s .ok || r .ok) ≡ conditionMeets (orderIn ps) event c) × (r .end ≡ at + length (codeCondition c))
         go (term t) rest n e =
             let d = it .right t rest e in
             absurd (n (sym (first code (s .end) rest (beyond code at (s .end) (codeTerm t) rest e (d .1))) ∙ b))
         go (or t c) rest n e =
             let d = at-or t c rest e in
             let f = ih .right c rest n (here code (s .end) _ _ (d .2) .next) in (
-              eo ∙ cc (d .0, f .0),
+              cc (d .0, f .0),
               omega (arith, d .1, f .1, length-append (codeTerm t) (111 ∷ codeCondition c)),
             )

@@ -2,7 +2,7 @@
 -- its spelling ends. For any bytes the end does not lie before the start.
 -- Assumes nothing.
 use mathlib.Core.Path.{_≡_}
-use mathlib.Core.Bool.{Bool, true, false, cond}
+use mathlib.Core.Bool.{Bool, true, false, not, cond, _&&_, _||_}
 use mathlib.Core.List.{List, _++_}
 use Prim.Native.Nat.{ℕ, _+_, _-_, _≤_, _<_}
 use lib.Dec.{eqb, ltb, leb}
@@ -29,6 +29,20 @@ isOf ps false p r = eqb r p
 -- the role at i of the event is the one that a byte of code names, or below it
 unfoldable pub roleAt : List ℕ → Bool → ℕ → List ℕ → ℕ → Bool
 roleAt ps under byte event i = cond (ltb byte 128) false (cond (leb (length event) i) false (isOf ps under (byte - 128) (getD event i 0)))
+
+-- an item and the items after it; a term and the condition after its or; the term after a not
+abbrev pub bothOf : Bool → Judged → Judged
+bothOf ok r = record { end = r .end; ok = ok && r .ok }
+
+abbrev pub eitherOf : Bool → Judged → Judged
+eitherOf ok r = record { end = r .end; ok = ok || r .ok }
+
+abbrev pub notOf : Judged → Judged
+notOf r = record { end = r .end; ok = not (r .ok) }
+
+-- what stands in brackets, with the bracket after it; where the code ends before, nothing is met
+abbrev pub bracketedOf : List ℕ → Judged → Judged
+bracketedOf code r = cond (leb (length code) (r .end)) (record { end = r .end; ok = false }) (record { end = r .end + 1; ok = r .ok })
 
 -- no or follows
 unfoldable pub Ended : List ℕ → Type 0

@@ -2,7 +2,7 @@
 use crate::roles::below;
 ghost use mathlib.Core.Path.{_≡_};
 ghost use mathlib.Core.Bool.{_&&_, _||_};
-ghost use Rattle.patterns.specs.Judged.{onward, roleAt, ItemsRead, JudgeRead, PatternRead};
+ghost use Rattle.patterns.specs.Judged.{onward, roleAt, bothOf, eitherOf, notOf, bracketedOf, ItemsRead, JudgeRead, PatternRead};
 
 // Where a spelling ends, and whether the event meets what it spells.
 pub struct Judged {
@@ -21,6 +21,52 @@ pub fn either(a: bool, b: bool) -> bool
     ensures { λ r. ⌜ r ≡ (a || b) ⌝ }
 {
     if a { true } else { b }
+}
+
+// What the rest of some items says, where the item before it says ok.
+fn joined(ok: bool, r: Judged) -> Judged
+    ensures { λ j. ⌜ j ≡ bothOf ok r ⌝ }
+{
+    let all = both(ok, r.ok);
+    Judged {
+        end: r.end,
+        ok: all,
+    }
+}
+
+// What the rest of a condition says, where the term before it says ok.
+fn or_else(ok: bool, r: Judged) -> Judged
+    ensures { λ j. ⌜ j ≡ eitherOf ok r ⌝ }
+{
+    let any = either(ok, r.ok);
+    Judged {
+        end: r.end,
+        ok: any,
+    }
+}
+
+// The opposite.
+fn opposite(r: Judged) -> Judged
+    ensures { λ j. ⌜ j ≡ notOf r ⌝ }
+{
+    Judged {
+        end: r.end,
+        ok: !r.ok,
+    }
+}
+
+// What stands in brackets, read to its end: the bracket after it is passed over, and where there is none nothing is met.
+fn bracketed(code: &[u8], r: Judged) -> Judged
+    ensures { λ j. ⌜ j ≡ bracketedOf (now (code .entry)) r ⌝ }
+{
+    let e = r.end;
+    if e >= code.len() {
+        return Judged { end: e, ok: false };
+    }
+    Judged {
+        end: e + 1,
+        ok: r.ok,
+    }
 }
 
 // The place after i in a list of n, and i where there is none.
@@ -80,19 +126,11 @@ fn items(code: &[u8], at: usize, event: &[u8], i: usize, parents: &[u8]) -> Judg
         }
         let ok = role_at(true, code[name], event, i, parents);
         let r = items(code, name + 1, event, next, parents);
-        let all = both(ok, r.ok);
-        return Judged {
-            end: r.end,
-            ok: all,
-        };
+        return joined(ok, r);
     }
     let ok = role_at(false, b, event, i, parents);
     let r = items(code, at + 1, event, next, parents);
-    let all = both(ok, r.ok);
-    Judged {
-        end: r.end,
-        ok: all,
-    }
+    joined(ok, r)
 }
 
 // A condition by its nesting: one function judges a whole condition, or one term of it, by recursion. What falls is the code left, and then whole.
@@ -107,11 +145,7 @@ fn judge(code: &[u8], at: usize, whole: bool, event: &[u8], parents: &[u8]) -> J
         }
         if code[e] == b'o' {
             let r = judge(code, e + 1, true, event, parents);
-            let any = either(t.ok, r.ok);
-            return Judged {
-                end: r.end,
-                ok: any,
-            };
+            return or_else(t.ok, r);
         }
         return t;
     }
@@ -121,11 +155,7 @@ fn judge(code: &[u8], at: usize, whole: bool, event: &[u8], parents: &[u8]) -> J
     let b = code[at];
     let next = at + 1;
     if b == b'n' {
-        let r = judge(code, next, false, event, parents);
-        return Judged {
-            end: r.end,
-            ok: !r.ok,
-        };
+        return opposite(judge(code, next, false, event, parents));
     }
     if b == b'a' {
         return Judged {
@@ -136,15 +166,7 @@ fn judge(code: &[u8], at: usize, whole: bool, event: &[u8], parents: &[u8]) -> J
     if b == b'<' {
         return items(code, next, event, 0, parents);
     }
-    let r = judge(code, next, true, event, parents);
-    let e = r.end;
-    if e >= code.len() {
-        return Judged { end: e, ok: false };
-    }
-    Judged {
-        end: e + 1,
-        ok: r.ok,
-    }
+    bracketed(code, judge(code, next, true, event, parents))
 }
 
 // A pattern from at on: any, a simple pattern, or a condition in square brackets. It is read as a term is: which bracket stands there is not asked.

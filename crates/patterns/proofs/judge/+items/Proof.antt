@@ -11,7 +11,7 @@ use Rattle.patterns.proofs.judge.items.Reads as items
 use Rattle.patterns.proofs.judge.items.Kinds as items-kinds
 use Rattle.patterns.proofs.judge.+items.Lts-items as items-lts
 use Rattle.patterns.proofs.judge.after.Reads as after-reads
-use Rattle.patterns.proofs.judge.both.Reads as both-reads
+use Rattle.patterns.proofs.judge.joined.Reads as joined-reads
 use Rattle.patterns.proofs.judge.role_at.Reads as role-at-reads
 use Rattle.patterns.proofs.judge.+items.{statement}
 use Rattle.patterns.proofs.judge.+items.Tie.{close}
@@ -26,7 +26,7 @@ abbrev items-below : ℕ → In 3 items-kinds.ps
 items-below t = and 3 items-kinds.ps (falls 3 items-kinds.ps _<_ μ-items t) items.Pre
 
 abbrev items-claims : ℕ → items-lts.Claims
-items-claims t = (after-reads.Asked, after-reads.Learnt, role-at-reads.Asked, role-at-reads.Learnt, items-below t, items.Post, both-reads.Asked, both-reads.Learnt)
+items-claims t = (after-reads.Asked, after-reads.Learnt, role-at-reads.Asked, role-at-reads.Learnt, items-below t, items.Post, joined-reads.Asked, joined-reads.Learnt)
 
 items-returns : (t : ℕ) → items-lts.Need-returns (items-claims t) (items-at t) items.Post
 items-returns t c = no-items _ _ _ _ _ _ (c .if1 .taken)
@@ -43,13 +43,13 @@ items-returns-4 t c = short _ _ _ _ _ (c .before .if4 .taken) (c .if5 .taken)
 items-returns-5 : (t : ℕ) → items-lts.Need-returns-5 (items-claims t) (items-at t) items.Post
 items-returns-5 t c =
     let th = c .before .before .before .before .before in
-    unders _ _ _ _ _ (th .if4 .taken) _ (th .before .after .ensures) _ (c .before .items .ensures) _ _ (c .before .before .role-at .ensures) (c .both .ensures)
+    rw (c .joined .ensures) (unders _ _ _ _ _ (th .if4 .taken) _ (th .before .after .ensures) _ (c .before .items .ensures) _ (c .before .before .role-at .ensures))
 
 items-returns-6 : (t : ℕ) → items-lts.Need-returns-6 (items-claims t) (items-at t) items.Post
 items-returns-6 t c =
     let el = c .before .before .before in
     let e3 = el .before .before in
-    sames _ _ _ _ _ (e3 .before .if2 .left) (e3 .if3 .left) (el .if4 .left) _ (el .before .after .ensures) _ (c .before .items2 .ensures) _ _ (c .before .before .role-at2 .ensures) (c .both2 .ensures)
+    rw (c .joined2 .ensures) (sames _ _ _ _ _ (e3 .before .if2 .left) (e3 .if3 .left) (el .if4 .left) _ (el .before .after .ensures) _ (c .before .items2 .ensures) _ (c .before .before .role-at2 .ensures))
 
 pub +items-spec : {M : Type 1} → statement M
 +items-spec = close μ-items λ t. items-lts.spec (items-claims t)

@@ -4,8 +4,8 @@ use mathlib.Core.Path.{refl, ap}
 use Prim.Native.Nat.{_-_, _+_, _*_}
 use lib.ListN.{length}
 use Rattle.patterns.proofs.JudgeLaws.{level, as-condition, as-term}
-use Rattle.patterns.proofs.PatternLaws.{no-pattern, not-pattern, any-pattern, list-pattern, open-pattern, group-pattern}
-use Rattle.patterns.proofs.TermLaws.{no-term, not-term, any-term, list-term, open-term, group-term, last-cond, end-cond, or-cond}
+use Rattle.patterns.proofs.PatternLaws.{no-pattern, not-pattern, any-pattern, list-pattern, bracket-pattern}
+use Rattle.patterns.proofs.TermLaws.{no-term, not-term, any-term, list-term, bracket-term, last-cond, end-cond, or-cond}
 use borrow.Author.Needs.{needs}
 use native.Mathlib.Omega.{arith}
 use Prim.Native.Nat.{ℕ, _<_}
@@ -14,7 +14,9 @@ use borrow.Fn.PlainCycle.{Measures, is, falls, and}
 use Rattle.patterns.proofs.judge.judge.Reads as judge
 use Rattle.patterns.proofs.judge.judge.Kinds as judge-kinds
 use Rattle.patterns.proofs.judge.+judge.Lts-judge as judge-lts
-use Rattle.patterns.proofs.judge.either.Reads as either-reads
+use Rattle.patterns.proofs.judge.bracketed.Reads as bracketed-reads
+use Rattle.patterns.proofs.judge.opposite.Reads as opposite-reads
+use Rattle.patterns.proofs.judge.or_else.Reads as or-else-reads
 use Rattle.patterns.proofs.judge.items.Reads as items-reads
 use Rattle.patterns.proofs.judge.+judge.{statement}
 use Rattle.patterns.proofs.judge.+judge.Tie.{close}
@@ -29,7 +31,7 @@ abbrev judge-below : ℕ → In 3 judge-kinds.ps
 judge-below t = and 3 judge-kinds.ps (falls 3 judge-kinds.ps _<_ μ-judge t) judge.Pre
 
 abbrev judge-claims : ℕ → judge-lts.Claims
-judge-claims t = (judge-below t, judge.Post, either-reads.Asked, either-reads.Learnt, items-reads.Asked, items-reads.Learnt)
+judge-claims t = (judge-below t, judge.Post, or-else-reads.Asked, or-else-reads.Learnt, opposite-reads.Asked, opposite-reads.Learnt, items-reads.Asked, items-reads.Learnt, bracketed-reads.Asked, bracketed-reads.Learnt)
 
 judge-judge-requires : (t : ℕ) → judge-lts.Need-judge-requires (judge-claims t) (judge-at t) judge.Post
 judge-judge-requires t c κs = (omega (arith, ap level (c .if1 .taken)), tt)
@@ -44,7 +46,7 @@ judge-returns-2 : (t : ℕ) → judge-lts.Need-returns-2 (judge-claims t) (judge
 judge-returns-2 t c =
     let th = c .before .before in
     let j = th .before .before .before in
-    as-condition _ _ _ _ _ _ (j .before .if1 .taken) (or-cond _ _ _ _ _ (j .judge .ensures .one refl) (th .if3 .taken) _ (c .before .judge2 .ensures .all refl) _ (c .either .ensures))
+    as-condition _ _ _ _ _ _ (j .before .if1 .taken) (rw (c .or-else .ensures) (or-cond _ _ _ _ _ (j .judge .ensures .one refl) (th .if3 .taken) _ (c .before .judge2 .ensures .all refl)))
 
 judge-returns-3 : (t : ℕ) → judge-lts.Need-returns-3 (judge-claims t) (judge-at t) judge.Post
 judge-returns-3 t c = let j = c .before .before .before in as-condition _ _ _ _ _ _ (j .before .if1 .taken) (end-cond _ _ _ _ _ (j .judge .ensures .one refl) (c .if3 .left))
@@ -59,7 +61,8 @@ judge-returns-5 : (t : ℕ) → judge-lts.Need-returns-5 (judge-claims t) (judge
 judge-returns-5 t c =
     let th = c .before .before in
     let j = c .before .judge3 .ensures in
-    as-term _ _ _ _ _ _ (th .before .before .before .if1 .left) (not-term _ _ _ _ (th .if5 .taken) _ (j .one refl)) (not-pattern _ _ _ _ (th .if5 .taken) _ (j .onwards))
+    as-term _ _ _ _ _ _ (th .before .before .before .if1 .left) (rw (c .opposite .ensures) (not-term _ _ _ _ (th .if5 .taken) _ (j .one refl)))
+    (rw (c .opposite .ensures) (not-pattern _ _ _ _ (th .if5 .taken) _ (j .onwards)))
 
 judge-returns-6 : (t : ℕ) → judge-lts.Need-returns-6 (judge-claims t) (judge-at t) judge.Post
 judge-returns-6 t c = as-term _ _ _ _ _ _ (c .before .before .before .before .if1 .left) (any-term _ _ _ _ (c .if6 .taken)) (any-pattern _ _ _ _ (c .if6 .taken))
@@ -76,15 +79,9 @@ judge-returns-8 : (t : ℕ) → judge-lts.Need-returns-8 (judge-claims t) (judge
 judge-returns-8 t c =
     let e = c .before .before in
     let j = c .before .judge4 .ensures .all refl in
-    as-term _ _ _ _ _ _ (e .before .before .before .before .before .if1 .left) (open-term _ _ _ _ (e .before .before .if5 .left) (e .before .if6 .left) (e .if7 .left) _ j (c .if8 .taken))
-    (open-pattern _ _ _ _ (e .before .if6 .left) (e .if7 .left) _ j (c .if8 .taken))
-
-judge-returns-9 : (t : ℕ) → judge-lts.Need-returns-9 (judge-claims t) (judge-at t) judge.Post
-judge-returns-9 t c =
-    let e = c .before .before in
-    let j = c .before .judge4 .ensures .all refl in
-    as-term _ _ _ _ _ _ (e .before .before .before .before .before .if1 .left) (group-term _ _ _ _ (e .before .before .if5 .left) (e .before .if6 .left) (e .if7 .left) _ j)
-    (group-pattern _ _ _ _ (e .before .if6 .left) (e .if7 .left) _ j)
+    as-term _ _ _ _ _ _ (e .before .before .before .before .before .if1 .left)
+    (rw (c .bracketed .ensures) (bracket-term _ _ _ _ (e .before .before .if5 .left) (e .before .if6 .left) (e .if7 .left) _ j))
+    (rw (c .bracketed .ensures) (bracket-pattern _ _ _ _ (e .before .if6 .left) (e .if7 .left) _ j))
 
 pub +judge-spec : {M : Type 1} → statement M
 +judge-spec = close μ-judge λ t. judge-lts.spec (judge-claims t)
@@ -102,11 +99,11 @@ pub +judge-spec : {M : Type 1} → statement M
     (λ c. search needs)
     (λ c. search needs)
     (judge-judge-requires-3 t)
+    (λ c κs. search needs)
     (judge-returns-5 t)
     (judge-returns-6 t)
     (λ c κs. search needs)
     (judge-returns-7 t)
     (judge-judge-requires-4 t)
+    (λ c κs. search needs)
     (judge-returns-8 t)
-    (λ c. search needs)
-    (judge-returns-9 t)
