@@ -8,6 +8,7 @@ ghost use Prim.Native.Nat.{_-_};
 ghost use lib.ListN.{getD};
 ghost use Rattle.chain.specs.Responses.{pickedAs, givenAs, RolesHeld, SlotRead, FillRead, TemplateRead, GivenRead, AnswerRead};
 
+// The four words of a response.
 pub enum Word {
     Pass,
     Hold,

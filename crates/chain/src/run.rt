@@ -20,6 +20,7 @@ pub struct Outcome {
     pub event: Event,
 }
 
+// Whether the work goes on.
 fn going(s: State) -> bool
     ensures { λ r. ⌜ r ≡ isGoing s ⌝ }
 {

@@ -87,6 +87,7 @@ fn find(f: Follower, ready: [usize; 32], looked: &[u8], left: usize) -> Found
     }
 }
 
+// Whether the response looks the rules up again.
 fn is_anew(word: Word) -> bool
     ensures { λ r. ⌜ r ≡ isAnew word ⌝ }
 {

@@ -36,7 +36,6 @@ use Rattle.monitor.specs.Outcomes.{AfterWork, OutcomeAnswered, EventAnsw
 use Rattle.monitor.specs.declared.answers.Answered.{Answered}
 use Rattle.monitor.proofs.Naming.{table-long}
 use Rattle.monitor.proofs.SaidNames.{said-names}
-use Rattle.monitor.proofs.Taken as names
 use Rattle.monitor.proofs.Taken.{lacks-is, all-found}
 use Rattle.monitor.proofs.WorkLaws.{ruleTrees, keeps-all, idWork, work-same, work-kept}
 use Rattle.monitor.proofs.AnswerLaws.{refused-answers, unchanged-refused}

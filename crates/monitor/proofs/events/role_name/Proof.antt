@@ -1,6 +1,6 @@
 -- `role_name` meets its contract.
 -- Assumes nothing.
-use mathlib.Core.Path.{_≡_, sym}
+use mathlib.Core.Path.{sym}
 use borrow.Author.Needs.{needs}
 use lib.ListN.{List·getD-eq-default}
 use Rattle.monitor.proofs.events.role_name.Statement.{statement}
