@@ -169,9 +169,24 @@ fn judge(code: &[u8], at: usize, whole: bool, event: &[u8], parents: &[u8]) -> J
     bracketed(code, judge(code, next, true, event, parents))
 }
 
-// A pattern from at on: any, a simple pattern, or a condition in square brackets. It is read as a term is: which bracket stands there is not asked.
+// A pattern from at on: any, a simple pattern, or a condition in square brackets, which is read as a term is: which bracket stands there is not asked. The
+// two that are common are read here, with no call that recurs.
 pub fn pattern(code: &[u8], at: usize, event: &[u8], parents: &[u8]) -> Judged
     ensures { λ r. ⌜ PatternRead (now (parents .entry)) (now (event .entry)) (now (code .entry)) at r ⌝ }
 {
+    if at >= code.len() {
+        return Judged { end: at, ok: false };
+    }
+    let b = code[at];
+    let next = at + 1;
+    if b == b'a' {
+        return Judged {
+            end: next,
+            ok: true,
+        };
+    }
+    if b == b'<' {
+        return items(code, next, event, 0, parents);
+    }
     judge(code, at, false, event, parents)
 }
