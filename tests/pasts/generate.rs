@@ -2,29 +2,8 @@
 
 use crate::model::meets;
 use crate::probe::{Event, NAMES, PARENTS};
+use crate::random::Random;
 use crate::tree::{spell_past, written, Condition, Item, Past, Pattern, Simple};
-
-/// SplitMix64, by Steele, Lea and Flood.
-pub struct Random(pub u64);
-
-impl Random {
-    pub fn next(&mut self) -> u64 {
-        self.0 = self.0.wrapping_add(0x9e37_79b9_7f4a_7c15);
-        let mut z = self.0;
-        z = (z ^ (z >> 30)).wrapping_mul(0xbf58_476d_1ce4_e5b9);
-        z = (z ^ (z >> 27)).wrapping_mul(0x94d0_49bb_1331_11eb);
-        z ^ (z >> 31)
-    }
-
-    pub fn below(&mut self, n: usize) -> usize {
-        (self.next() % n as u64) as usize
-    }
-
-    /// True in `percent` of 100 cases.
-    pub fn chance(&mut self, percent: usize) -> bool {
-        self.below(100) < percent
-    }
-}
 
 /// How many roles an event or a simple pattern has: often one, seldom four.
 fn length(random: &mut Random) -> usize {

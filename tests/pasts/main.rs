@@ -6,9 +6,13 @@
 mod generate;
 mod model;
 mod probe;
+// Its other choices serve the random sessions.
+#[allow(dead_code)]
+#[path = "../calls/random.rs"]
+mod random;
 mod tree;
 
-use generate::Random;
+use random::Random;
 use probe::{Event, NAMES};
 use tree::Past;
 
@@ -213,7 +217,7 @@ fn main() {
     };
     println!("pasts: seed {}", seed);
     fixed(seed);
-    let mut random = Random(seed);
+    let mut random = Random::new(seed);
     let mut counts = Counts::default();
     for _ in 0..PASTS {
         let (past, text) = next(seed, &mut random, &mut counts);
