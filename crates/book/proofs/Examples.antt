@@ -1,7 +1,7 @@
 -- The book gives the answers of specs/Examples.antt, computed.
 -- Assumes nothing.
 use mathlib.Core.Path.{refl}
-use Rattle.lexer.specs.Class.{classOf, wordy, spacey, marky}
+use Rattle.lexer.specs.Class.{classOf, wordy, spacey, marky, allClassed}
 use Rattle.lexer.specs.Run.{run}
 use Rattle.lexer.specs.Words.{kindOf, same, nameLike, digitKind}
 use Rattle.lexer.specs.Tokens.{tokensFrom}
@@ -10,16 +10,17 @@ use Rattle.grammar.specs.Parser.{itemOf, openOf, itemsOf, simpleOf, conditionWi
 use Rattle.grammar.specs.Lines.{readLine, readEvent}
 use Rattle.grammar.specs.Names.{itemsNames, simpleNames, conditionNames, patternNames, pastNames, slotsNames, responseNames, ruleNames}
 use Rattle.grammar.specs.Size.{sizePast}
-use Rattle.frame.specs.Text.{textOf, allClassed}
+use Rattle.frame.specs.Text.{textOf}
 use Rattle.frame.specs.Record.{kindBy, frameOf}
 use Rattle.patterns.specs.Roles.{isBelow}
 use Rattle.patterns.specs.Meets.{itemsMeet, termMeets, meets}
 use Rattle.follow.specs.Meaning.{pastMeaning}
 use Rattle.chain.specs.Work.{fillSlot, fill, chain, respond, work, workEvent}
 use Rattle.reply.specs.Reply.{padded, spaced, replyBytes}
-use Rattle.book.specs.Decide.{isFree, decideLine, decideText, decide, answer}
+use Rattle.intake.specs.Asked.{isFree, askedLine, askedEvent, askedText, asked}
+use Rattle.book.specs.Decide.{decide, answer}
 use Rattle.book.specs.Examples.{Answered, printed, sendRun, anewRun, loneAnew, fourHops, fiveHops, refusals, starts, stuck, full}
 
 pub examples-right : Answered printed × Answered sendRun × Answered anewRun × Answered loneAnew × Answered fourHops × Answered fiveHops × Answered refusals × Answered starts × Answered stuck × Answered full
-unfolding classOf wordy spacey marky run kindOf same nameLike digitKind tokensFrom markIs wordIs placeIs wholly itemOf openOf itemsOf simpleOf conditionWith termWith conditionOf patternOf starsOf afterStars begins pastWith sequenceWith factorWith baseWith pastOf slotOf slotsOf templateOf responseOf roleOf headOf tailOf ruleOf namesOf eventOf readLine readEvent itemsNames simpleNames conditionNames patternNames pastNames slotsNames responseNames ruleNames sizePast textOf allClassed kindBy frameOf isBelow itemsMeet termMeets meets pastMeaning fillSlot fill chain respond work workEvent padded spaced replyBytes isFree decideLine decideText decide answer
+unfolding classOf wordy spacey marky run kindOf same nameLike digitKind tokensFrom markIs wordIs placeIs wholly itemOf openOf itemsOf simpleOf conditionWith termWith conditionOf patternOf starsOf afterStars begins pastWith sequenceWith factorWith baseWith pastOf slotOf slotsOf templateOf responseOf roleOf headOf tailOf ruleOf namesOf eventOf readLine readEvent itemsNames simpleNames conditionNames patternNames pastNames slotsNames responseNames ruleNames sizePast textOf allClassed kindBy frameOf isBelow itemsMeet termMeets meets pastMeaning fillSlot fill chain respond work workEvent padded spaced replyBytes isFree askedLine askedEvent askedText asked decide answer
 examples-right = (refl, refl, refl, refl, refl, refl, refl, refl, refl, refl)

@@ -3,14 +3,11 @@
 use mathlib.Core.List.{List, [], _∷_, _++_}
 use Prim.Native.Nat.{ℕ}
 use lib.ListN.{replicate}
+use Rattle.frame.specs.Records.{recordOf}
 use Rattle.reply.specs.Reply.{padded}
 use Rattle.book.specs.Decide.{Call, Answer}
 
--- a record: byte 0 and the text, spaces, the newline
-abbrev pub recordOf : List ℕ → List ℕ
-recordOf s = padded 127 s ++ (10 ∷ [])
-
--- a call with that record, and a buffer of 50 bytes
+-- a call with the record of that text, and a buffer of 50 bytes
 abbrev pub callOf : List ℕ → Call
 callOf s = record { bytes = recordOf s; buffer = replicate 50 0 }
 

@@ -10,8 +10,8 @@ use Rattle.chain.specs.Work.{Duty, fill, chain}
 use Rattle.chain.specs.Responses.{wordOf}
 use Rattle.chain.specs.Steps.{Stand}
 use Rattle.chain.specs.declared.responses.Word.{Word}
-use Rattle.chain.specs.declared.steps.State.{State}
-use Rattle.chain.specs.declared.steps.State.the-variants.{Going, Committed, Held, Unfit, TooLong}
+use Rattle.chain.specs.declared.steps.Status.{Status}
+use Rattle.chain.specs.declared.steps.Status.the-variants.{Going, Committed, Held, Unfit, TooLong}
 use Rattle.chain.specs.declared.steps.Work.{Work}
 use Rattle.chain.specs.declared.steps.Stepped.{Stepped}
 
@@ -53,7 +53,7 @@ abbrev pub rowsFrom : (List ℕ → List (Duty ℕ ℕ)) → Stand → List (Row
 rowsFrom look s = rows look (64 - s .worked) (s .rest) (s .event)
 
 -- the rows of a step and those after it, by how the work stands then: committed and too long are no responses worked
-abbrev pub rowsOf : State → Row ℕ ℕ → List (Row ℕ ℕ) → List (Row ℕ ℕ)
+abbrev pub rowsOf : Status → Row ℕ ℕ → List (Row ℕ ℕ) → List (Row ℕ ℕ)
 rowsOf Going x l = x ∷ l
 rowsOf Committed x l = []
 rowsOf (Held i) x l = x ∷ []

@@ -1,7 +1,7 @@
 -- The codes of a rule's tokens are the code of its tree.
 -- Assumes nothing.
 use mathlib.Core.Path.{_≡_, refl, ap, _∙_}
-use mathlib.Core.List.{List, [], _∷_, _++_, map}
+use mathlib.Core.List.{List, [], _∷_, _++_}
 use Prim.Native.Nat.{ℕ, zero, suc, _+_, _≤_}
 use native.Mathlib.Omega.{arith}
 use lib.ListN.{replicate}
@@ -12,7 +12,7 @@ use Rattle.code.specs.Code.{idOf, letterOf, codeOf, codes}
 use Rattle.grammar.specs.Rename.{mapItem, mapItems, mapSimple, mapCondition, mapTerm, mapPattern, mapPast, mapSequence, mapFactor, mapBase, mapSlots, mapResponse}
 use Rattle.grammar.specs.AsRead.{exact, below, Items, close, starClose, item, anyEvent, items, Condition, term, or, Term, negate, simple, inside, Pattern, plain, bracketed, Past, only, either, Sequence, single, beside, Factor, starred, Base, pattern, nothing, group, named, place, Response, pass, hold, send, anew, Template}
 use Rattle.grammar.specs.Spell.{spellItem, spellItems, spellSimple, spellCondition, spellTerm, spellPattern, spellStars, spellPast, spellSequence, spellFactor, spellBase, spellSlot, spellSlots, spellResponse, spellTail}
-use Rattle.grammar.specs.Valid.{ValidItem, ValidItems, ValidSimple, ValidCondition, ValidTerm, ValidPattern, ValidPast, ValidSequence, ValidFactor, ValidBase, ValidSlot, ValidSlots, ValidResponse, ValidNames}
+use Rattle.grammar.specs.Valid.{ValidItem, ValidItems, ValidSimple, ValidCondition, ValidTerm, ValidPattern, ValidPast, ValidSequence, ValidFactor, ValidBase, ValidSlot, ValidSlots, ValidResponse}
 use Rattle.code.specs.Trees.{codeItems, codeSimple, codeCondition, codeTerm, codePattern, codePast, codeSequence, codeFactor, codeBase, codeSlots, codeResponse, codeTail, codeRule}
 
 module _ (ns : List ℕ) where
@@ -116,10 +116,3 @@ module _ (ns : List ℕ) where
   rule-code p t x g h k =
       joined (spellPast p) (mark 59 ∷ (spellPattern t ++ (mark 59 ∷ spellResponse x))) _ _ (past-code p g)
       (ap (λ (l : List ℕ). 59 ∷ l) (joined (spellPattern t) (mark 59 ∷ spellResponse x) _ _ (pattern-code t h) (ap (λ (l : List ℕ). 59 ∷ l) (response-code x k))))
-
-  -- The tokens of an event, coded, are its roles' ids, each with 128 added.
-  pub event-code : (k : ℕ) (ws : List (List ℕ)) → ValidNames k ws → codes ns (map word ws) ≡ map (λ w. 128 + idOf ns w) ws
-  unfolding codes ValidNames
-  event-code k [] g = refl
-  event-code zero (w ∷ ws) g = absurd g
-  event-code (suc k) (w ∷ ws) g = rw (name w (g .0)) (ap (λ (l : List ℕ). (128 + idOf ns w) ∷ l) (event-code k ws (g .1)))

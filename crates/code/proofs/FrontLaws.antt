@@ -1,19 +1,18 @@
 -- The first token of a text as code: a law for each answer of `next`.
 -- Assumes nothing.
 use mathlib.Core.Path.{_≡_, refl, ap, sym, _∙_}
-use mathlib.Core.Bool.{true, false}
+use mathlib.Core.Bool.{false}
 use mathlib.Core.List.{List}
-use Prim.Native.Nat.{ℕ, _+_, _<_, _≤_}
-use lib.ListN.{length}
-use borrow.Author.Tests.{eq-eqb, ne-eqb, lt-ltb, le-ltb}
+use Prim.Native.Nat.{ℕ, _+_}
+use lib.Dec.{eqb}
+use borrow.Author.Tests.{eq-eqb, ne-eqb}
 use Rattle.lexer.specs.Words.{kindOf}
 use Rattle.lexer.specs.Tokens.{word, mark, other, firstWord, Next}
 use Rattle.lexer.specs.declared.tokens.Lexeme.the-variants as lexeme
-use Rattle.names.specs.Name.{packed}
-use Rattle.names.specs.Place.{place}
 use Rattle.code.specs.Code.{idOf, letterOf, codeOf, unheld}
-use Rattle.code.specs.Encoded.{Front}
+use Rattle.code.specs.Encoded.{Few, IdRead, Front}
 use Rattle.code.specs.declared.encode.Piece.the-variants.{End, Code}
+use Rattle.code.proofs.IdLaws.{id-tells}
 
 module _ (ns s : List ℕ) where
   pub front-end : Next s lexeme.End → Front ns s End
@@ -34,19 +33,11 @@ module _ (ns s : List ℕ) where
       let e = h .1 .1 in
       (h .0, (word (h .1 .0), h .1 .2, λ f. (rw (e, ne-eqb k 0 z) refl, rw (e, ne-eqb k 0 z) refl)))
 
-  -- a name: its place among those held
-  module _ (k n at : ℕ) (h : Next s (lexeme.Word k n)) (z : k ≡ 0) (q : at ≡ place (packed (firstWord s)) ns) where
-    pub front-held : at < length ns → Front ns s (Code (128 + at) false n)
-    unfolding Next Front codeOf unheld idOf
-    front-held l =
-        let e = eq-eqb (kindOf (h .1 .0)) 0 (h .1 .1 ∙ z) in
-        let p : place (packed (h .1 .0)) ns ≡ at = ap (λ (v : List ℕ). place (packed v) ns) (sym (h .1 .3)) ∙ sym q in
-        (h .0, (word (h .1 .0), h .1 .2, λ f. (rw (e, p, lt-ltb at (length ns) l) refl, rw (e, p, lt-ltb at (length ns) l) refl)))
-
-    -- not held: or held at a place that a table of few names does not have
-    pub front-unheld : (length ns ≤ 127 → length ns ≤ at) → Front ns s (Code 255 true n)
-    unfolding Next Front codeOf unheld idOf
-    front-unheld l =
-        let e = eq-eqb (kindOf (h .1 .0)) 0 (h .1 .1 ∙ z) in
-        let p : place (packed (h .1 .0)) ns ≡ at = ap (λ (v : List ℕ). place (packed v) ns) (sym (h .1 .3)) ∙ sym q in
-        (h .0, (word (h .1 .0), h .1 .2, λ f. (rw (e, p, le-ltb at (length ns) (l f)) refl, rw (e, p, le-ltb at (length ns) (l f)) refl)))
+  -- a name: 128 and its id
+  pub front-name : (k n i : ℕ) (u : List ℕ) → Next s (lexeme.Word k n) → k ≡ 0 → u ≡ firstWord s → IdRead ns u i → Front ns s (Code (128 + i) (eqb i 127) n)
+  unfolding Next Front codeOf unheld
+  front-name k n i u h z q r =
+      let w = h .1 .0 in
+      let e = eq-eqb (kindOf w) 0 (h .1 .1 ∙ z) in
+      let p : Few ns → idOf ns w ≡ i = λ f. ap (idOf ns) (sym (q ∙ h .1 .3)) ∙ sym (r .right f) in
+      (h .0, (word w, h .1 .2, λ f. (rw (e, p f) refl, rw e (sym (id-tells ns w f) ∙ ap (λ (j : ℕ). eqb j 127) (p f)))))

@@ -2,7 +2,7 @@
 -- Assumes nothing.
 use mathlib.Core.Path.{_≡_, refl, ap, sym, _∙_}
 use mathlib.Core.Bool.{Bool, false, not, _||_, or-false}
-use mathlib.Core.List.{List, [], _∷_, _++_, map}
+use mathlib.Core.List.{List, [], _∷_, _++_}
 use Prim.Native.Nat.{ℕ, zero, suc, _+_, _≤_}
 use native.Mathlib.Omega.{arith}
 use Rattle.lexer.specs.Class.{classOf}
@@ -13,7 +13,7 @@ use Rattle.code.specs.Code.{unheld, anyUnheld}
 use Rattle.grammar.specs.Names.{itemsNames, simpleNames, conditionNames, termNames, patternNames, pastNames, sequenceNames, factorNames, baseNames, slotsNames, responseNames, ruleNames}
 use Rattle.grammar.specs.AsRead.{exact, below, Items, close, starClose, item, anyEvent, items, Condition, term, or, Term, negate, simple, inside, Pattern, plain, bracketed, Past, only, either, Sequence, single, beside, Factor, starred, Base, pattern, nothing, group, named, place, Response, pass, hold, send, anew, Template}
 use Rattle.grammar.specs.Spell.{spellItem, spellItems, spellSimple, spellCondition, spellTerm, spellPattern, spellStars, spellPast, spellSequence, spellFactor, spellBase, spellSlot, spellSlots, spellResponse, spellTail}
-use Rattle.grammar.specs.Valid.{ValidItem, ValidItems, ValidSimple, ValidCondition, ValidTerm, ValidPattern, ValidPast, ValidSequence, ValidFactor, ValidBase, ValidSlot, ValidSlots, ValidResponse, ValidNames}
+use Rattle.grammar.specs.Valid.{ValidItem, ValidItems, ValidSimple, ValidCondition, ValidTerm, ValidPattern, ValidPast, ValidSequence, ValidFactor, ValidBase, ValidSlot, ValidSlots, ValidResponse}
 use Rattle.code.specs.Lines.{lacks}
 use Rattle.lexer.proofs.Bools.{or-assoc}
 
@@ -29,10 +29,10 @@ module _ (ns : List ℕ) where
   missing-append [] b = refl
   missing-append (t ∷ a) b = ap (λ (q : Bool). unheld ns t || q) (missing-append a b) ∙ or-assoc (unheld ns t) (missing a) (missing b)
 
-  short-append : (a b : List (List ℕ)) → short (a ++ b) ≡ (short a || short b)
+  pub lacks-append : (a b : List (List ℕ)) → short (a ++ b) ≡ (short a || short b)
   unfolding lacks
-  short-append [] b = refl
-  short-append (w ∷ a) b = ap (λ (q : Bool). not (held ns w) || q) (short-append a b) ∙ or-assoc (not (held ns w)) (short a) (short b)
+  lacks-append [] b = refl
+  lacks-append (w ∷ a) b = ap (λ (q : Bool). not (held ns w) || q) (lacks-append a b) ∙ or-assoc (not (held ns w)) (short a) (short b)
 
   name : (w : List ℕ) → kindOf w ≡ 0 → unheld ns (word w) ≡ not (held ns w)
   unfolding unheld
@@ -48,7 +48,7 @@ module _ (ns : List ℕ) where
   digit (suc (suc (suc (suc (suc n))))) h = absurd (omega arith)
 
   joined : (a b : List Token) (k l : List (List ℕ)) → missing a ≡ short k → missing b ≡ short l → missing (a ++ b) ≡ short (k ++ l)
-  joined a b k l e h = missing-append a b ∙ rw (e, h) refl ∙ sym (short-append k l)
+  joined a b k l e h = missing-append a b ∙ rw (e, h) refl ∙ sym (lacks-append k l)
 
   -- marks after a spelling change nothing
   closed : (b : ℕ) (ts : List Token) (k : List (List ℕ)) → missing ts ≡ short k → missing (ts ++ (mark b ∷ [])) ≡ short k
@@ -126,9 +126,3 @@ module _ (ns : List ℕ) where
   rule-lacks p t x g h k =
       joined (spellPast p) (mark 59 ∷ (spellPattern t ++ (mark 59 ∷ spellResponse x))) (pastNames p) (patternNames t ++ responseNames x) (past-lacks p g)
       (joined (spellPattern t) (mark 59 ∷ spellResponse x) (patternNames t) (responseNames x) (pattern-lacks t h) (response-lacks x k))
-
-  pub event-lacks : (k : ℕ) (ws : List (List ℕ)) → ValidNames k ws → missing (map word ws) ≡ short ws
-  unfolding anyUnheld lacks ValidNames
-  event-lacks k [] g = refl
-  event-lacks zero (w ∷ ws) g = absurd g
-  event-lacks (suc k) (w ∷ ws) g = rw (name w (g .0), event-lacks k ws (g .1)) refl

@@ -1,7 +1,9 @@
 pub mod Codes
 pub mod Lacks
+pub mod IdLaws
 pub mod FrontLaws
 pub mod EncodeLaws
 pub mod CountLaws
 pub mod LineLaws
+pub mod PartLaws
 pub mod EventLaws

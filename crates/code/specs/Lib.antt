@@ -3,3 +3,4 @@ pub mod Trees
 pub mod Encoded
 pub mod Count
 pub mod Lines
+pub mod Events

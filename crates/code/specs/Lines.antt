@@ -1,16 +1,16 @@
 -- What reading a line tells, with ids for the names held.
 -- Assumes nothing.
 use mathlib.Core.Path.{_≡_}
-use mathlib.Core.Bool.{Bool, false, cond, not, _||_}
-use mathlib.Core.List.{List, [], _∷_, _++_, map}
-use Prim.Native.Nat.{ℕ, _-_, _≤_}
-use lib.Dec.{leb, ltb}
-use lib.ListN.{length, take, getD}
+use mathlib.Core.Bool.{Bool, false, not, _||_}
+use mathlib.Core.List.{List, [], _∷_, _++_}
+use Prim.Native.Nat.{ℕ, _≤_}
+use lib.Dec.{leb}
+use lib.ListN.{length, take}
 use Rattle.lexer.specs.Tokens.{Token, tokens}
 use Rattle.names.specs.Name.{packed}
 use Rattle.names.specs.Place.{place, held}
 use Rattle.grammar.specs.Trees as trees
-use Rattle.grammar.specs.AsRead.{Past, Pattern, Response, role, rule, event}
+use Rattle.grammar.specs.AsRead.{Past, Pattern, Response, role, rule}
 use Rattle.grammar.specs.Rename.{mapPast, mapPattern, mapResponse}
 use Rattle.grammar.specs.Names.{ruleNames}
 use Rattle.grammar.specs.Size.{sizePast}
@@ -22,7 +22,6 @@ use Rattle.code.specs.Count.{limit}
 use Rattle.code.specs.declared.encode.Encoded.{Encoded}
 use Rattle.code.specs.declared.lines.RuleLine.{RuleLine}
 use Rattle.code.specs.declared.lines.RoleLine.{RoleLine}
-use Rattle.code.specs.declared.lines.EventLine.{EventLine}
 
 -- one of some names is not held
 unfoldable pub lacks : List ℕ → List (List ℕ) → Bool
@@ -55,24 +54,3 @@ pub record RuleRead (ns s : List ℕ) (r : RuleLine) : Type 0 where
 pub record RoleRead (ns s : List ℕ) (r : RoleLine) : Type 0 where
   pub name : (w p : List ℕ) → Says s (role w p) → r .name ≡ packed w
   pub parent : (w p : List ℕ) → Says s (role w p) → r .parent ≡ place (packed p) ns
-
--- the first four bytes of a code, 128 taken off each
-abbrev pub firstFour : List ℕ → List ℕ
-firstFour c = (getD c 0 0 - 128) ∷ (getD c 1 0 - 128) ∷ (getD c 2 0 - 128) ∷ (getD c 3 0 - 128) ∷ []
-
--- the event in a code
-pub record EventIn (body : Encoded) (r : EventLine) : Type 0 where
-  pub whole : length (body .code) ≡ 126
-  pub len : r .len ≡ cond (ltb 4 (body .len)) 4 (body .len)
-  pub roles : r .roles ≡ firstFour (body .code)
-  pub unknown : r .unknown ≡ body .unknown
-
--- of an event: the ids of its roles, and whether it names a role that is not held (refusal 6)
-pub record EventTold (ns : List ℕ) (ws : List (List ℕ)) (r : EventLine) : Type 0 where
-  pub roles : take (r .len) (r .roles) ≡ map (idOf ns) ws
-  pub unknown : r .unknown ≡ lacks ns ws
-
--- what reading an event promises, of any text and of one in the language
-pub record EventRead (ns s : List ℕ) (r : EventLine) : Type 0 where
-  pub small : r .len ≤ 4
-  pub right : length s ≤ 126 → Few ns → (ws : List (List ℕ)) → Says s (event ws) → EventTold ns ws r

@@ -1,4 +1,6 @@
 // Tokens to code, in one flat pass.
+use crate::ids::UNHELD;
+use crate::ids::id_of;
 use lexer::Lexeme;
 use lexer::first_word;
 use lexer::next;
@@ -67,15 +69,8 @@ fn front(s: &[u8], names: &[u64]) -> Piece
         Lexeme::Other(b, n) => Piece::Code(0, false, n),
         Lexeme::Word(k, n) => {
             if k == NAME {
-                let w = first_word(s);
-                let x = names::pack(w);
-                let at = names::find(names, x);
-                if at < names.len() {
-                    if at < 127 {
-                        return Piece::Code(128 + at as u8, false, n);
-                    }
-                }
-                return Piece::Code(255, true, n);
+                let i = id_of(first_word(s), names);
+                return Piece::Code(128 + i, i == UNHELD, n);
             }
             let c = letter(k);
             Piece::Code(c, false, n)

@@ -10,8 +10,7 @@ use lexer::rest;
 ghost use mathlib.Core.Path.{_≡_};
 ghost use Rattle.lexer.specs.Tokens.{firstWord};
 ghost use Rattle.names.specs.Name.{packed};
-ghost use Prim.Native.Nat.{_-_, _≤_};
-ghost use Rattle.code.specs.Lines.{AfterFirst, FewRead, RuleRead, RoleRead, EventIn, EventRead};
+ghost use Rattle.code.specs.Lines.{AfterFirst, FewRead, RuleRead, RoleRead};
 
 // A rule line: its name, its code after `rule NAME :`, and whether its past has few enough patterns.
 pub struct RuleLine {
@@ -24,13 +23,6 @@ pub struct RuleLine {
 pub struct RoleLine {
     pub name: u64,
     pub parent: usize,
-}
-
-// An event (document 01: act): the ids of its roles, and whether one is not held.
-pub struct EventLine {
-    pub len: usize,
-    pub roles: [u8; 4],
-    pub unknown: bool,
 }
 
 // What is left after the first token.
@@ -92,47 +84,4 @@ pub fn role_line(text: &[u8], names: &[u64]) -> RoleLine
         name: name,
         parent: parent,
     }
-}
-
-// The id in a name's byte of code.
-fn id_in(b: u8) -> u8
-    ensures { λ r. ⌜ r ≡ b - 128 ⌝ }
-{
-    if b < 128 {
-        return 0;
-    }
-    b - 128
-}
-
-// The event that a code holds: at most four roles.
-fn event_in(body: Encoded) -> EventLine
-    ensures { λ r. ⌜ EventIn body r ⌝ }
-{
-    let code = body.code;
-    let roles = [
-        id_in(code[0]),
-        id_in(code[1]),
-        id_in(code[2]),
-        id_in(code[3]),
-    ];
-    let len = body.len;
-    if 4 < len {
-        return EventLine {
-            len: 4,
-            roles: roles,
-            unknown: body.unknown,
-        };
-    }
-    EventLine {
-        len: len,
-        roles: roles,
-        unknown: body.unknown,
-    }
-}
-
-// An event's text, read.
-pub fn event_line(text: &[u8], names: &[u64]) -> EventLine
-    ensures { λ r. ⌜ EventRead (now (names .entry)) (now (text .entry)) r ⌝ }
-{
-    event_in(encode(text, names))
 }

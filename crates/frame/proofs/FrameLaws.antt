@@ -9,7 +9,8 @@ use native.Mathlib.Omega.{arith}
 use lib.Dec.{eqb}
 use lib.ListN.{length, getD}
 use borrow.Author.Tests.{eq-eqb, ne-eqb, eqb-true, eqb-false}
-use Rattle.frame.specs.Text.{textOf, allClassed}
+use Rattle.lexer.specs.Class.{allClassed}
+use Rattle.frame.specs.Text.{textOf}
 use Rattle.frame.specs.Record.{refusal, lineByte, eventByte, newline, kindBy, frameOf}
 use Rattle.frame.specs.Framed.{Framed, Fault, kindless, endless, classless, Says}
 use Rattle.frame.specs.declared.records.Frame.{Frame}

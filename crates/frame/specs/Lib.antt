@@ -1,3 +1,4 @@
 pub mod Text
 pub mod Record
+pub mod Records
 pub mod Framed

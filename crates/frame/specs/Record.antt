@@ -5,7 +5,8 @@ use mathlib.Core.List.{List}
 use Prim.Native.Nat.{ℕ}
 use lib.Dec.{eqb}
 use lib.ListN.{length, getD}
-use Rattle.frame.specs.Text.{textOf, allClassed}
+use Rattle.lexer.specs.Class.{allClassed}
+use Rattle.frame.specs.Text.{textOf}
 use Rattle.frame.specs.declared.records.Frame.{Frame}
 use Rattle.frame.specs.declared.records.Frame.the-variants.{Line, Event, WrongLength, Malformed}
 

@@ -1,6 +1,6 @@
 // The frame of a record. Document 01, "A record" and rows 2 and 3 of the refusals.
-use crate::texts::all_classed;
 use crate::texts::text;
+use lexer::all_classed;
 ghost use mathlib.Core.Path.{_≡_};
 ghost use Rattle.frame.specs.Record.{kindBy, frameOf};
 

@@ -71,11 +71,6 @@ all-left a n s t h e =
     let l : length t ≡ n = ap length e ∙ last-length n s h in
     (omega arith, ap tokens (subst (λ (k : ℕ). last k t ≡ t) l (last-all t)))
 
--- the rest after all of it
-pub everything : {A : Type 0} (a : A) (s : List ℕ) → Answers (some a (tokens s)) s (Left (length s))
-unfolding Answers
-everything a s = (omega arith, ap tokens (last-all s))
-
 -- whether all was read
 pub whole-left : {A : Type 0} (p : Parsed A) (s t : List ℕ) (n : ℕ) (b : Bool) → Answers p s (Left n) → t ≡ last n s → b ≡ isNone (tokens t) → b ≡ whole p
 unfolding Answers whole

@@ -4,7 +4,6 @@ pub mod LevelLaws
 pub mod LevelPatterns
 pub mod LevelPasts
 pub mod LevelResponses
-pub mod LevelLines
 pub mod Spells
 pub mod SoundLeaves
 pub mod SoundPatterns

@@ -11,7 +11,7 @@ use Rattle.lexer.specs.Tokens.{Token, tokens}
 use Rattle.grammar.specs.AsRead.{Line, role, rule, event}
 use Rattle.grammar.specs.Parsed.{Parsed, none, some, map, bind, wordIs, isNone, whole, wholly}
 use Rattle.grammar.specs.Parser.{roleOf, headOf, pastOf, tailOf, ruleOf, namesOf, eventOf, depth}
-use Rattle.grammar.specs.Lines.{orElse, readLine, readEvent, isSome, kindOfLine}
+use Rattle.grammar.specs.Lines.{orElse, readLine, kindOfLine}
 use Rattle.grammar.specs.declared.lines.Kind.{Kind}
 use Rattle.grammar.specs.declared.lines.Kind.the-variants.{Role, Rule, Neither}
 
@@ -48,12 +48,6 @@ event-shaped ts = map-shaped Neither event (λ ws. refl) (namesOf 4 ts)
 
 -- whether all was read, and what was read
 
-pub wholly-some : {A : Type 0} (p : Parsed A) → isSome (wholly p) ≡ whole p
-unfolding whole wholly isNone
-wholly-some none = refl
-wholly-some (some a []) = refl
-wholly-some (some a (t ∷ ts)) = refl
-
 first-kind : (k : Kind) (p : Parsed Line) (d : option.Option Line) → Shaped kindOf k p → whole p ≡ true → kindOfLine (orElse (wholly p) d) ≡ k
 unfolding whole wholly isNone
 first-kind k none d h e = let z : _≡_ {A = ℕ} 0 1 = cc in absurd (omega arith)
@@ -76,7 +70,7 @@ or-none : (a : option.Option Line) → orElse a option.none ≡ a
 or-none option.none = refl
 or-none (option.some l) = refl
 
--- the answers of `line_kind` and `is_event`
+-- the answers of `line_kind`
 module _ (s : List ℕ) where
   pub kind-rule : whole (ruleOf (depth (length s)) (tokens s)) ≡ true → kindOfLine (readLine s) ≡ Rule
   unfolding readLine
@@ -91,12 +85,3 @@ module _ (s : List ℕ) where
   pub kind-neither : whole (ruleOf (depth (length s)) (tokens s)) ≡ false → whole (roleOf (tokens s)) ≡ false → kindOfLine (readLine s) ≡ Neither
   unfolding readLine
   kind-neither e h = rw (next-kind (ruleOf (depth (length s)) (tokens s)) (wholly (roleOf (tokens s))) e) (no-line (roleOf (tokens s)) h)
-
-map-whole : {A B : Type 0} (f : A → B) (p : Parsed A) → whole (map f p) ≡ whole p
-unfolding whole
-map-whole f none = refl
-map-whole f (some a ts) = refl
-
-pub event-whole : (s : List ℕ) → isSome (readEvent s) ≡ whole (namesOf 4 (tokens s))
-unfolding readEvent eventOf
-event-whole s = rw (wholly-some (map event (namesOf 4 (tokens s)))) (map-whole event (namesOf 4 (tokens s)))

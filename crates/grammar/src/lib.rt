@@ -1,7 +1,7 @@
-// The rule language: recognizers of role lines, rule lines and events, over any bytes of any length.
+// The rule language: recognizers of role lines and rule lines, over any bytes of any length.
 //
 // Each reader takes the unread part of a record's text and answers how many bytes are left after its form. It hands the next reader a part of
-// the same text that starts in its middle.
+// the same text that starts in its middle. An event is read by the crate `code`, in one pass with its ids.
 pub mod leaves;
 pub mod lines;
 pub mod pasts;
@@ -11,5 +11,4 @@ pub mod responses;
 pub use leaves::Reading;
 pub use lines::Kind;
 pub use lines::head;
-pub use lines::is_event;
 pub use lines::line_kind;

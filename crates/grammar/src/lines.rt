@@ -1,4 +1,4 @@
-// Role lines, rule lines and events, read to their end.
+// Role lines and rule lines, read to their end.
 use crate::leaves::Reading;
 use crate::leaves::ends;
 use crate::leaves::mark_at;
@@ -15,9 +15,9 @@ ghost use mathlib.Core.Path.{_≡_};
 ghost use lib.ListN.{length};
 ghost use Rattle.lexer.specs.Tokens.{tokens};
 ghost use Rattle.grammar.specs.Parsed.{whole};
-ghost use Rattle.grammar.specs.Parser.{roleOf, headOf, tailOf, ruleOf, namesOf, depth};
-ghost use Rattle.grammar.specs.Answers.{Answers, Follows, FollowsLevel};
-ghost use Rattle.grammar.specs.Lines.{readLine, readEvent, kindOfLine, isSome};
+ghost use Rattle.grammar.specs.Parser.{roleOf, headOf, tailOf, ruleOf, depth};
+ghost use Rattle.grammar.specs.Answers.{Follows, FollowsLevel};
+ghost use Rattle.grammar.specs.Lines.{readLine, kindOfLine};
 
 // What a line's text is.
 pub enum Kind {
@@ -90,19 +90,6 @@ fn rule(s: &[u8]) -> Reading
     tail(rest(t, b))
 }
 
-// How many bytes are left after at most k names.
-fn names(s: &[u8], k: usize) -> Reading
-    ensures { λ r. ⌜ Answers (namesOf k (tokens (now (s .entry)))) (now (s .entry)) r ⌝ }
-{
-    if k == 0 {
-        return Reading::Left(s.len());
-    }
-    match word_at(s, NAME) {
-        Reading::Left(n) => names(rest(s, n), k - 1),
-        Reading::Bad => Reading::Left(s.len()),
-    }
-}
-
 // Whether a text is a role line's.
 fn is_role(s: &[u8]) -> bool
     ensures { λ r. ⌜ r ≡ whole (roleOf (tokens (now (s .entry)))) ⌝ }
@@ -118,16 +105,6 @@ fn is_rule(s: &[u8]) -> bool
     ensures { λ r. ⌜ r ≡ whole (ruleOf (depth (length (now (s .entry)))) (tokens (now (s .entry)))) ⌝ }
 {
     match rule(s) {
-        Reading::Left(n) => ends(rest(s, n)),
-        Reading::Bad => false,
-    }
-}
-
-// Whether a text is an event's (document 01: act).
-pub fn is_event(s: &[u8]) -> bool
-    ensures { λ r. ⌜ r ≡ isSome (readEvent (now (s .entry))) ⌝ }
-{
-    match names(s, 4) {
         Reading::Left(n) => ends(rest(s, n)),
         Reading::Bad => false,
     }

@@ -52,5 +52,15 @@ pub extern "C" fn stand_judge(sheet: &[u8], number: u32, records: &[u8]) -> u64
     if sheet.len() % 128 != 0 {
         return 11 * SHIFT;
     }
-    number_of(judge(after(sheet), number as usize, records))
+    let monitor = after(sheet);
+    number_of(judge(
+        &monitor.sheet.names,
+        monitor.sheet.role_count,
+        &monitor.sheet.parents,
+        &monitor.sheet.rows,
+        &monitor.sheet.ends,
+        monitor.sheet.rule_count,
+        number as usize,
+        records,
+    ))
 }

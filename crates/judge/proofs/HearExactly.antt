@@ -1,7 +1,7 @@
 -- A record of 128 bytes is heard exactly as rows 3, 4 and 6 say.
 -- Assumes nothing.
 use mathlib.Core.Path.{_≡_, refl, ap, _∙_}
-use mathlib.Core.Bool.{Bool, true, false, cond}
+use mathlib.Core.Bool.{Bool, true, false}
 use mathlib.Core.List.{List}
 use mathlib.Core.Option.{Option, none, some}
 use Prim.Native.Nat.{ℕ}
@@ -19,8 +19,10 @@ use Rattle.frame.specs.declared.records.Frame.{Frame}
 use Rattle.frame.specs.declared.records.Frame.the-variants.{Line as LineRecord, Event as EventRecord, WrongLength, Malformed as MalformedRecord}
 use Rattle.frame.proofs.FrameLaws.{frame-exactly}
 use Rattle.patterns.specs.Roles.{allHeld}
-use Rattle.book.specs.Names.{Event, Roles}
-use Rattle.judge.specs.Judge.{Heard, heardEvent, turned, hearText, hearFrame, hear, numberOf}
+use Rattle.intake.specs.Asked.{asksEvent, check, askedEvent}
+use Rattle.intake.specs.Names.{Event, Roles}
+use Rattle.judge.specs.Judge.{Heard, heardEvent, turned, heardBy, hearText, hearFrame, hear, numberOf}
+use Rattle.judge.proofs.HearLaws.{malformed-heard}
 use Rattle.judge.specs.Rows.{Act, Turns, turns-3, turns-3-line, turns-4, turns-6}
 use Rattle.judge.specs.declared.hearing.Verdict.{Verdict}
 use Rattle.judge.specs.declared.hearing.Verdict.the-variants.{Malformed, NotInLanguage, Unknown}
@@ -32,7 +34,7 @@ module _ (rs : Roles) (s : List ℕ) where
   Hears (turned v) = Turns rs s (numberOf v)
 
   text-hears : Framed eventByte s → (o : Option Line) → readEvent (textOf s) ≡ o → Hears (hearText rs o)
-  unfolding hearText
+  unfolding hearText askedEvent
   text-hears f none q = turns-4 f (event-refused (textOf s) .0 q)
   text-hears f (some (role w p)) q = absurd (true-not-false false (event-taken (textOf s) (role w p) .0 q .1) refl)
   text-hears f (some (rule w p t x)) q = absurd (true-not-false false (event-taken (textOf s) (rule w p t x) .0 q .1) refl)
@@ -41,7 +43,7 @@ module _ (rs : Roles) (s : List ℕ) where
       said : Says (textOf s) (event e)
       said = event-taken (textOf s) (event e) .0 q .0
 
-      go : (b : Bool) → allHeld same rs e ≡ b → Hears (cond b (heardEvent e) (turned Unknown))
+      go : (b : Bool) → allHeld same rs e ≡ b → Hears (heardBy (check b 6 (asksEvent e)))
       go true h = record { framed = f; says = said; known = h }
       go false h = turns-6 f said h
 
@@ -63,19 +65,8 @@ module _ (rs : Roles) (s : List ℕ) where
   event-framed f = ap (λ (x : Frame). hearFrame rs x (textOf s)) (frame-exactly s EventRecord .1 f)
 
   pub act-heard : (e : Event) → Act rs s e → hear rs s ≡ heardEvent e
-  unfolding hearText
+  unfolding hearText askedEvent
   act-heard e a = event-framed (a .framed) ∙ ap (hearText rs) (event-taken (textOf s) (event e) .1 (a .says, refl)) ∙ rw (a .known) refl
-
-  -- a record that is not framed as an event
-  malformed-heard : length s ≡ 128 → (Framed eventByte s → ⊥) → hear rs s ≡ turned Malformed
-  unfolding hear hearFrame
-  malformed-heard n h = go (frameOf s) (frame-exactly s (frameOf s) .0 refl)
-    where
-      go : (f : Frame) → Frames s f → hearFrame rs f (textOf s) ≡ turned Malformed
-      go LineRecord f = refl
-      go EventRecord f = absurd (h f)
-      go WrongLength f = absurd (f n)
-      go MalformedRecord f = refl
 
   -- with a fault it is not framed
   fault-unframed : Fault s → Framed eventByte s → ⊥
@@ -83,9 +74,9 @@ module _ (rs : Roles) (s : List ℕ) where
   fault-unframed (endless h) f = h (f .end)
   fault-unframed (classless i l m e) f = f .classed i l m e
 
-  pub turn-heard : length s ≡ 128 → (k : ℕ) → Turns rs s k → (v : Verdict) × (hear rs s ≡ turned v) × (numberOf v ≡ k)
-  unfolding hearText
-  turn-heard n k (turns-3 f) = (Malformed, malformed-heard n (fault-unframed f), refl)
-  turn-heard n k (turns-3-line h) = (Malformed, malformed-heard n (λ f. h (f .first)), refl)
-  turn-heard n k (turns-4 f h) = (NotInLanguage, event-framed f ∙ ap (hearText rs) (event-refused (textOf s) .1 h), refl)
-  turn-heard n k (turns-6 {e = e} f h u) = (Unknown, event-framed f ∙ ap (hearText rs) (event-taken (textOf s) (event e) .1 (h, refl)) ∙ rw u refl, refl)
+  pub turn-heard : (k : ℕ) → Turns rs s k → (v : Verdict) × (hear rs s ≡ turned v) × (numberOf v ≡ k)
+  unfolding hearText askedEvent
+  turn-heard k (turns-3 f) = (Malformed, malformed-heard rs s (fault-unframed f), refl)
+  turn-heard k (turns-3-line h) = (Malformed, malformed-heard rs s (λ f. h (f .first)), refl)
+  turn-heard k (turns-4 f h) = (NotInLanguage, event-framed f ∙ ap (hearText rs) (event-refused (textOf s) .1 h), refl)
+  turn-heard k (turns-6 {e = e} f h u) = (Unknown, event-framed f ∙ ap (hearText rs) (event-taken (textOf s) (event e) .1 (h, refl)) ∙ rw u refl, refl)

@@ -12,9 +12,10 @@ use lib.Seq.{length-take-le}
 use borrow.Author.Tests.{eqb-true, leb-true, eq-eqb, le-leb}
 use Rattle.lexer.proofs.Bools.{and-left, and-right}
 use Rattle.grammar.specs.AsRead.{Past}
+use Rattle.frame.specs.Records.{recordsOf}
 use Rattle.patterns.specs.All.{All}
-use Rattle.book.specs.Names.{Event, Roles}
-use Rattle.judge.specs.Judge.{Heard, heardEvent, turned, hear, recordsOf, onHeard, judgeRecords, isWhole, numberOf}
+use Rattle.intake.specs.Names.{Event, Roles}
+use Rattle.judge.specs.Judge.{Heard, heardEvent, turned, hear, onHeard, judgeRecords, isWhole, numberOf}
 use Rattle.judge.specs.Rows.{Whole, turns-3, turns-3-line, turns-4, turns-6, Acts, acts-none, acts-more, FirstTurned, turned-first, turned-after}
 use Rattle.judge.proofs.HearExactly.{Hears, hears, act-heard, turn-heard}
 use Rattle.judge.proofs.Verdicts.{Say, say-none, say-more}
@@ -63,13 +64,13 @@ module _ (rs : Roles) (p : Past) where
   acts-say [] [] acts-none = say-none
   acts-say (r ∷ l) (e ∷ es) (acts-more a h) = say-more (act-heard rs r e a) (acts-say l es h)
 
-  pub turned-number : (es : List Event) (l : List (List ℕ)) → Sized l → (k : ℕ) → FirstTurned rs l k → numberOf (judgeRecords rs p es l) ≡ k
+  pub turned-number : (es : List Event) (l : List (List ℕ)) (k : ℕ) → FirstTurned rs l k → numberOf (judgeRecords rs p es l) ≡ k
   unfolding judgeRecords
-  turned-number es (r ∷ l) z k (turned-first h) =
-      let d = turn-heard rs r (z .0) k h in
+  turned-number es (r ∷ l) k (turned-first h) =
+      let d = turn-heard rs r k h in
       ap (λ (x : Heard). numberOf (onHeard x (λ e. judgeRecords rs p (es ++ (e ∷ [])) l))) (d .1) ∙ d .2
-  turned-number es (r ∷ l) z k (turned-after {e = e} a h) =
-      ap (λ (x : Heard). numberOf (onHeard x (λ y. judgeRecords rs p (es ++ (y ∷ [])) l))) (act-heard rs r e a) ∙ turned-number (es ++ (e ∷ [])) l (z .1) k h
+  turned-number es (r ∷ l) k (turned-after {e = e} a h) =
+      ap (λ (x : Heard). numberOf (onHeard x (λ y. judgeRecords rs p (es ++ (y ∷ [])) l))) (act-heard rs r e a) ∙ turned-number (es ++ (e ∷ [])) l k h
 
 -- a record's refusal has a number that is not 0
 pub turned-above : (rs : Roles) (l : List (List ℕ)) (k : ℕ) → FirstTurned rs l k → 0 < k

@@ -9,8 +9,8 @@ use native.Mathlib.Omega.{arith}
 use lib.Dec.{eqb}
 use lib.ListN.{length, length-map}
 use borrow.Author.Tests.{eqb-true, eqb-false, eq-eqb, ne-eqb}
-use Rattle.book.specs.Names.{Rule}
-use Rattle.book.specs.Tracked.{Followed}
+use Rattle.intake.specs.Names.{Rule}
+use Rattle.intake.specs.Machine.{Followed}
 use Rattle.judge.specs.Judge.{ruleAt}
 use Rattle.judge.specs.Rows.{rulesOf, Numbered, newest, older}
 

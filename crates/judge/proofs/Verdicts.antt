@@ -12,7 +12,7 @@ use Rattle.positions.specs.Past.{Sat}
 use Rattle.positions.specs.Matcher.{matches}
 use Rattle.positions.proofs.Matching.{matches-iff}
 use Rattle.follow.specs.Meaning.{pastMeaning}
-use Rattle.book.specs.Names.{Event, Roles}
+use Rattle.intake.specs.Names.{Event, Roles}
 use Rattle.judge.specs.Judge.{Heard, heardEvent, hear, onHeard, judgeRecords}
 use Rattle.judge.specs.declared.hearing.Verdict.{Verdict}
 use Rattle.judge.specs.declared.hearing.Verdict.the-variants.{Yes, No, NoRule, NotWhole, Malformed, NotInLanguage, Unknown}

@@ -4,22 +4,23 @@
 use mathlib.Core.Bool.{Bool, cond, _&&_}
 use mathlib.Core.List.{List, [], _∷_, _++_}
 use mathlib.Core.Option.{Option, none, some}
-use Prim.Native.Nat.{ℕ, zero, suc, _/_, _%_}
+use Prim.Native.Nat.{ℕ, _/_, _%_}
 use lib.Dec.{eqb, leb}
-use lib.ListN.{length, take, drop}
+use lib.ListN.{length}
 use Rattle.lexer.specs.Words.{same}
-use Rattle.grammar.specs.AsRead.{Past, Line, role, rule, event}
+use Rattle.grammar.specs.AsRead.{Past, Line}
 use Rattle.grammar.specs.Lines.{readEvent}
 use Rattle.frame.specs.Text.{textOf}
 use Rattle.frame.specs.Record.{frameOf}
+use Rattle.frame.specs.Records.{recordsOf}
 use Rattle.frame.specs.declared.records.Frame.{Frame}
 use Rattle.frame.specs.declared.records.Frame.the-variants.{Line as LineRecord, Event as EventRecord, WrongLength, Malformed as MalformedRecord}
-use Rattle.patterns.specs.Roles.{allHeld}
 use Rattle.patterns.specs.Meets.{orderOf, meets}
 use Rattle.positions.specs.Matcher.{matches}
 use Rattle.follow.specs.Meaning.{pastMeaning}
-use Rattle.book.specs.Names.{Event, Roles, Rule}
-use Rattle.book.specs.Tracked.{Followed, Tracked}
+use Rattle.intake.specs.Asked.{Asked, refusedBy, asksRole, asksRule, asksEvent, askedEvent}
+use Rattle.intake.specs.Names.{Event, Roles, Rule}
+use Rattle.intake.specs.Machine.{Followed, Tracked}
 use Rattle.judge.specs.declared.hearing.Verdict.{Verdict}
 use Rattle.judge.specs.declared.hearing.Verdict.the-variants.{Yes, No, NoRule, NotWhole, Malformed, NotInLanguage, Unknown}
 
@@ -38,12 +39,20 @@ pub data Heard : Type 0 where
   heardEvent : Event → Heard
   turned : Verdict → Heard
 
--- 4, "text not in the language", then 6, "a role used .. isn't declared"
+-- the answer where row n refuses: 4, "text not in the language"; 6, "a role used .. isn't declared"; the rows before them are 3 to the judge
+abbrev pub verdictBy : ℕ → Verdict
+verdictBy n = cond (eqb n 6) Unknown (cond (eqb n 4) NotInLanguage Malformed)
+
+-- what a record gives that asks this: only an event is heard
+abbrev pub heardBy : Asked → Heard
+heardBy (refusedBy n) = turned (verdictBy n)
+heardBy (asksRole w p) = turned Malformed
+heardBy (asksRule r) = turned Malformed
+heardBy (asksEvent e) = heardEvent e
+
+-- 4, then 6, as the one table has them (intake, specs/Asked.antt)
 unfoldable pub hearText : Roles → Option Line → Heard
-hearText rs none = turned NotInLanguage
-hearText rs (some (role w p)) = turned NotInLanguage
-hearText rs (some (rule w p t x)) = turned NotInLanguage
-hearText rs (some (event e)) = cond (allHeld same rs e) (heardEvent e) (turned Unknown)
+hearText rs o = heardBy (askedEvent rs o)
 
 -- 3, "byte 0 not `L` or `E` (judge: not `E`)"
 unfoldable pub hearFrame : Roles → Frame → List ℕ → Heard
@@ -55,11 +64,6 @@ hearFrame rs MalformedRecord s = turned Malformed
 -- a record heard: refusals 3, 4 and 6, or its event
 unfoldable pub hear : Roles → List ℕ → Heard
 hear rs s = hearFrame rs (frameOf s) (textOf s)
-
--- the first n records of a buffer
-abbrev pub recordsOf : ℕ → List ℕ → List (List ℕ)
-recordsOf zero s = []
-recordsOf (suc n) s = take 128 s ∷ recordsOf n (drop 128 s)
 
 -- "the first refusal found is its answer"
 abbrev pub onHeard : Heard → (Event → Verdict) → Verdict

@@ -1,4 +1,3 @@
 pub mod Judge
-pub mod Hearing
 pub mod Judging
 pub mod Rows

@@ -12,15 +12,16 @@ use Rattle.grammar.specs.AsRead.{Line, event}
 use Rattle.grammar.specs.Lines.{Says, happens}
 use Rattle.frame.specs.Text.{textOf}
 use Rattle.frame.specs.Record.{eventByte}
+use Rattle.frame.specs.Records.{recordsOf}
 use Rattle.frame.specs.Framed.{Framed, Fault}
 use Rattle.patterns.specs.Roles.{allHeld}
 use Rattle.patterns.specs.Meets.{orderOf, meets}
 use Rattle.positions.specs.Past.{Sat}
 use Rattle.follow.specs.Meaning.{pastMeaning}
-use Rattle.book.specs.Names.{Event, Roles, Rule}
+use Rattle.intake.specs.Names.{Event, Roles, Rule}
 use Rattle.book.specs.Book.{Book}
-use Rattle.book.specs.Tracked.{Followed}
-use Rattle.judge.specs.Judge.{numberOf, recordsOf}
+use Rattle.intake.specs.Machine.{Followed}
+use Rattle.judge.specs.Judge.{numberOf}
 use Rattle.judge.specs.declared.hearing.Verdict.{Verdict}
 use Rattle.judge.specs.declared.hearing.Verdict.the-variants.{Yes, No}
 

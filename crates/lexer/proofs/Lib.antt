@@ -1,6 +1,7 @@
 pub mod Bools
 pub mod Table
 pub mod ClassTable
+pub mod ClassedLaws
 pub mod RunLaws
 pub mod SameLaws
 pub mod TokenLaws

@@ -1,7 +1,7 @@
 -- The class of a byte. Document 01, "A record".
 -- Assumes nothing.
 use Prim.Native.Nat.{ℕ}
-use mathlib.Core.Bool.{Bool, false, cond, _&&_, _||_}
+use mathlib.Core.Bool.{Bool, true, false, not, cond, _&&_, _||_}
 use mathlib.Core.List.{List, [], _∷_}
 use lib.Dec.{leb, eqb}
 
@@ -39,3 +39,8 @@ spacey b = eqb (classOf b) 1
 -- class 5: "Each class 5 byte is a token of its own."
 unfoldable pub marky : ℕ → Bool
 marky b = eqb (classOf b) 5
+
+-- no byte is of class 0: the opposite of "a text byte of class 0"
+unfoldable pub allClassed : List ℕ → Bool
+allClassed [] = true
+allClassed (b ∷ s) = not (eqb (classOf b) 0) && allClassed s

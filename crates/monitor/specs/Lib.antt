@@ -1,5 +1,4 @@
 pub mod Answers
-pub mod Handled
 pub mod Outcomes
-pub mod Represents
+pub mod Handled
 pub mod Sessions

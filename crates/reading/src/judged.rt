@@ -88,8 +88,7 @@ fn event_shown(e: EventLine, held: &[u64]) {
 }
 
 // An event: whether its roles are held, and their ids.
-fn event(t: &[u8], held: &[u64]) {
-    let e = code::event_line(t, held);
+fn event(e: EventLine, held: &[u64]) {
     say(b"event");
     verdict(e.unknown, true);
     say(b", ids");
@@ -107,8 +106,9 @@ fn line(t: &[u8], held: &[u64]) {
 
 // An event's text.
 fn event_text(t: &[u8], held: &[u64]) {
-    if grammar::is_event(t) {
-        event(t, held);
+    let e = code::event_line(t, held);
+    if e.fits {
+        event(e, held);
         return;
     }
     say(b"refused 4");

@@ -1,6 +1,2 @@
-pub mod PaddedLaws
-pub mod LineLaws
-pub mod TextLaws
-pub mod CopyLaws
-pub mod FiftyLaws
+pub mod WholeLaws
 pub mod ReplyLaws

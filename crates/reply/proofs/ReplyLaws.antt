@@ -12,8 +12,9 @@ use borrow.Author.Tests.{ltb-true, ltb-false}
 use Rattle.names.specs.Unpacked.{unpacked}
 use Rattle.reply.specs.Reply.{padded, spaced, replyBytes}
 use Rattle.reply.specs.Columns.{Columns}
-use Rattle.reply.proofs.PaddedLaws.{spaces, padded-nil, padded-cons, padded-length, padded-short}
-use Rattle.reply.proofs.TextLaws.{short-unpacked, spaced-length}
+use Rattle.columns.specs.Texts.{spaces}
+use Rattle.columns.proofs.PaddedLaws.{padded-nil, padded-cons, padded-length, padded-short}
+use Rattle.columns.proofs.WordLaws.{short-unpacked, spaced-length}
 
 -- column i of a padded word
 pub padded-at : (k : ℕ) (w : List ℕ) (i : ℕ) → i < k → getD (padded k w) i 0 ≡ getD w i 32
@@ -99,4 +100,4 @@ reply-digits n h = (omega arith, omega arith, omega arith)
 
 -- at most four role names stand there whole
 pub roles-room : (ns : List ℕ) → length ns ≤ 4 → length (spaced (map unpacked ns)) ≤ 35
-roles-room ns h = spaced-length (map unpacked ns) (rw (length-map ns unpacked) h) (short-unpacked ns)
+roles-room ns h = omega (arith, spaced-length (map unpacked ns) (short-unpacked ns), length-map ns unpacked)

@@ -2,17 +2,8 @@
 -- Assumes nothing.
 use mathlib.Core.List.{List, [], _∷_, _++_}
 use Prim.Native.Nat.{ℕ, _+_, _/_, _%_}
-use lib.ListN.{take, replicate}
-
--- "padded with spaces" to k columns
-unfoldable pub padded : ℕ → List ℕ → List ℕ
-padded k w = take k (w ++ replicate k 32)
-
--- "the committed role names with one space between"
-unfoldable pub spaced : List (List ℕ) → List ℕ
-spaced [] = []
-spaced (n ∷ []) = n
-spaced (n ∷ (m ∷ e)) = n ++ (32 ∷ spaced (m ∷ e))
+-- "padded with spaces", and names "with one space between"
+unfoldable pub use Rattle.columns.specs.Texts.{padded, spaced}
 
 -- the name where there is none: "else `-`"
 abbrev pub dash : List ℕ

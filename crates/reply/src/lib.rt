@@ -2,11 +2,8 @@
 //
 // Every function takes any arguments.
 pub mod kinds;
-pub mod lines;
 pub mod replies;
-pub mod texts;
 
 pub use kinds::Kind;
-pub use replies::copy_fifty;
-pub use replies::fifty;
+pub use replies::plain;
 pub use replies::reply;

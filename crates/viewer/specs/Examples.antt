@@ -3,10 +3,9 @@
 -- Assumes nothing.
 use mathlib.Core.Path.{_≡_}
 use mathlib.Core.List.{List, [], _∷_, _++_, map}
-use Prim.Native.Nat.{ℕ}
 use Prim.Native.String.{String}
-use lib.ListN.{take, replicate}
 use Rattle.grammar.specs.Text.{bytesOf}
+use Rattle.frame.specs.Records.{recordOf}
 use Rattle.viewer.specs.Film.{freshFilm}
 use Rattle.viewer.specs.Showing.{linesOf}
 
@@ -19,13 +18,9 @@ pub record Row : Type 0 where
 abbrev pub row : String → String → Row
 row s l = record { text = s; line = l }
 
--- a record: byte 0 and the text, spaces, the newline
-abbrev pub recordOf : String → List ℕ
-recordOf s = take 127 (bytesOf s ++ replicate 127 32) ++ (10 ∷ [])
-
 -- a fresh film says these lines
 abbrev pub Said : List Row → Type 0
-Said rs = linesOf freshFilm (map (λ (r : Row). recordOf (r .text)) rs) ≡ map (λ (r : Row). bytesOf (r .line) ++ (10 ∷ [])) rs
+Said rs = linesOf freshFilm (map (λ (r : Row). recordOf (bytesOf (r .text))) rs) ≡ map (λ (r : Row). bytesOf (r .line) ++ (10 ∷ [])) rs
 
 -- a rule sees the acts after its declaration and no other; a role below another meets `+`; a refused act is seen by none
 abbrev pub starts : List Row

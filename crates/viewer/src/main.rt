@@ -1,6 +1,6 @@
 // The film viewer: reads the file `film.rec`, record by record, takes each act as committed, and writes a line for each record to standard output.
 //
-// It builds on the readers and the follower alone: nothing is held, sent or worked, whatever the rules' triggers and responses say.
+// It builds on the door for records and the state that follows pasts alone: nothing is held, sent or worked, whatever the rules' triggers and responses say.
 //
 // A line tells what became of the record, and which rules' pasts match after it, in declared order:
 //
@@ -9,9 +9,7 @@
 // - then ` |`, and a space and its name for each rule whose past matches now, or ` -` where there is none; the newline ends the line.
 //
 // A short last record gets R 02. An empty file gives no line. A file that cannot be opened or read is named, with the reason, on standard error.
-pub mod acts;
 pub mod answers;
-pub mod lines;
 pub mod matching;
 pub mod records;
 pub mod shown;

@@ -9,7 +9,10 @@ returns : tie.Need-returns
 returns c = sheet-uneven _ _ _ (c .if1 .taken)
 
 returns-2 : tie.Need-returns-2
-returns-2 c = sheet-whole _ _ _ _ _ _ (c .before .before .before .if1 .left) (c .before .before .after .ensures) (c .before .judge .ensures) (c .number-of .ensures)
+returns-2 c =
+    let j = c .before in
+    let a = j .before .before .before .before .before .before .before .before .before .before in
+    sheet-whole _ _ _ (a .after .result) _ _ (a .before .if1 .left) (a .after .ensures) (j .judge .ensures) (c .number-of .ensures)
 
 pub stand-judge-spec : {M : Type 1} → statement M
 stand-judge-spec = tie.close (tie.spec (λ c. search needs) returns (λ c κs. search needs) (λ c κs. search needs) (λ c κs. search needs) returns-2)

@@ -8,38 +8,45 @@ use Rattle.follow.proofs.declare.declare_role.Statement.{statement}
 use Rattle.follow.proofs.declare.declare_role.Tie as tie
 
 returns : tie.Need-returns
-returns c = role-5 _ _ (sym (c .if1 .taken) ∙ c .before .taken .ensures)
+returns c = c .refused .ensures ∙ role-5 _ _ (sym (c .before .if1 .taken) ∙ c .before .before .taken .ensures)
 
 returns-2 : tie.Need-returns-2
 returns-2 c =
-    let k = c .before in
+    let t = c .before in
+    let k = t .before in
     let e = k .before in
-    role-6 _ _ (sym (e .if1 .left) ∙ e .before .taken .ensures) _ (k .capped .ensures .is) (c .if2 .taken)
+    c .refused2 .ensures ∙ role-6 _ _ (sym (e .if1 .left) ∙ e .before .taken .ensures) _ (k .capped .ensures .is) (t .if2 .taken)
 
 returns-3 : tie.Need-returns-3
 returns-3 c =
-    let k = c .before .before in
+    let t = c .before in
+    let k = t .before .before in
     let e = k .before in
-    role-8 _ _ (sym (e .if1 .left) ∙ e .before .taken .ensures) _ (k .capped .ensures .is) (c .before .if2 .left) (c .if3 .taken)
+    c .refused3 .ensures ∙ role-8 _ _ (sym (e .if1 .left) ∙ e .before .taken .ensures) _ (k .capped .ensures .is) (t .before .if2 .left) (t .if3 .taken)
 
 returns-4 : tie.Need-returns-4
 returns-4 c =
-    let k = c .before .before in
+    let p = c .before in
+    let m = p .before .before in
+    let t = m .before .before in
+    let k = t .before .before in
     let e = k .before in
-    role-0 _ _ (sym (e .if1 .left) ∙ e .before .taken .ensures) _ (k .capped .ensures .is) (c .before .if2 .left) (c .if3 .left)
+    role-0 _ _ (sym (e .if1 .left) ∙ e .before .taken .ensures) _ (k .capped .ensures .is) (t .before .if2 .left) (t .if3 .left) _ _ (m .put-name .ensures) (p .put-parent .ensures)
 
 pub declare-role-spec : {M : Type 1} → statement M
 declare-role-spec =
     tie.close
     (tie.spec
     (λ c κs. search needs)
+    (λ c κs. search needs)
     returns
     (λ c κs. search needs)
+    (λ c κs. search needs)
     returns-2
+    (λ c κs. search needs)
     returns-3
-    (λ c. search needs)
-    (λ c. search needs)
-    (λ c. omega (arith, c .before .before .capped .ensures .small))
-    (λ c. search needs)
+    (λ c κs. search needs)
+    (λ c. omega (arith, c .before .before .before .before .before .capped .ensures .small))
+    (λ c κs. search needs)
     (λ c. search needs)
     returns-4)

@@ -10,12 +10,12 @@ use Rattle.following.proofs.steps.rule_declared.Tie as tie
 
 array-share-prefix-names : tie.Need-array-share-prefix-names
 array-share-prefix-names c =
-    let h : length (c .before .before .before .args .f .names) ≡ 64 = search needs in
+    let h : length (c .before .before .before .args .f .sheet .names) ≡ 64 = search needs in
     omega (arith, c .capped .ensures .small)
 
 slice-aggregate-rule-line : tie.Need-slice-aggregate-rule-line
 slice-aggregate-rule-line c =
-    let h : length (c .before .before .before .before .args .f .names) ≡ 64 = search needs in
+    let h : length (c .before .before .before .before .args .f .sheet .names) ≡ 64 = search needs in
     sym (length-take-le _ _ (omega (arith, c .before .capped .ensures .small)))
 
 pub rule-declared-spec : {M : Type 1} → statement M

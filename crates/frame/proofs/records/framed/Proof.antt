@@ -1,6 +1,6 @@
 use mathlib.Core.Path.{ap, sym, _∙_}
 use borrow.Author.Needs.{needs}
-use Rattle.frame.specs.Text.{allClassed}
+use Rattle.lexer.specs.Class.{allClassed}
 use Rattle.frame.proofs.FrameLaws.{frame-length, frame-end, frame-classless, frame-kind}
 use Rattle.frame.proofs.records.framed.Statement.{statement}
 use Rattle.frame.proofs.records.framed.Tie as tie

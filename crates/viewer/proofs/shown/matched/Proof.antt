@@ -1,17 +1,34 @@
 -- `matched` meets its contract.
 -- Assumes nothing.
 use borrow.Author.Needs.{needs}
-use Rattle.viewer.proofs.WriteLaws.{adds-dash, adds-some}
+use lib.ListN.{length}
+use Rattle.viewer.specs.Lines.{listed}
+use Rattle.viewer.proofs.WriteLaws.{writes-dash, writes-some}
 use Rattle.viewer.proofs.shown.matched.Statement.{statement}
 use Rattle.viewer.proofs.shown.matched.Tie as tie
 
 returns : tie.Need-returns
 returns c =
-    let t = c .before .before in
-    adds-dash _ _ _ (t .before .before .before .those-in .ensures) _ _ (t .if1 .taken) (c .before .put .ensures) (c .put2 .ensures)
+    let d = c .before .before in
+    let i = d .before .before .before in
+    let t = i .before .before .before in
+    let a = t .before .before .before .before .args in
+    writes-dash (listed (a .names .now) (a .set) (length (a .names .now))) (i .if1 .taken) (t .those-in .ensures) (d .text .ensures)
 
 returns-2 : tie.Need-returns-2
-returns-2 c = adds-some _ _ _ (c .before .before .before .those-in .ensures) (c .if1 .left)
+returns-2 c =
+    let t = c .before .before .before in
+    let a = t .before .before .before .before .args in
+    writes-some (listed (a .names .now) (a .set) (length (a .names .now))) (c .if1 .left) (t .those-in .ensures)
 
 pub matched-spec : {M : Type 1} → statement M
-matched-spec = tie.close (tie.spec (λ c κs. search needs) (λ c κs. search needs) (λ c κs. search needs) returns returns-2)
+matched-spec =
+    tie.close
+    (tie.spec
+    (λ c κs. search needs)
+    (λ c. search needs)
+    (λ c κs. search needs)
+    (λ c. search needs)
+    returns
+    (λ c. search needs)
+    returns-2)

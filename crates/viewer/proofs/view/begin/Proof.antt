@@ -10,8 +10,8 @@ use Rattle.viewer.proofs.view.begin.Tie as tie
 
 returns : tie.Need-returns
 returns c =
-    let p : length (c .new .result .parents) ≡ 64 = search needs in
-    let n : length (c .new .result .names) ≡ 64 = search needs in
+    let n : length (c .new .result .sheet .names) ≡ 64 = search needs in
+    let p : length (c .new .result .sheet .parents) ≡ 64 = search needs in
     begun _ (c .new .ensures) (omega (arith, n)) (omega (arith, p))
 
 pub begin-spec : {M : Type 1} → statement M

@@ -1,0 +1,4 @@
+pub mod WriteLaws
+pub mod PaddedLaws
+pub mod BlankLaws
+pub mod WordLaws
