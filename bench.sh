@@ -4,12 +4,12 @@
 set -eu
 cd "$(dirname "$0")"
 command -v rustc > /dev/null || { apt-get update && apt-get install -y rustc; }
-rt staticlib host > /dev/null
+rt staticlib stand > /dev/null
 out=$(mktemp -d)
 trap 'rm -rf "$out"' EXIT
 rustc --edition 2021 -O -L target/staticlib -o "$out/monitor" bench/monitor/main.rs
 if [ $# -eq 0 ]; then
-    "$out/monitor" crates/runs/data
+    "$out/monitor" crates/test_sessions/data
 else
     ${UNDER:-} "$out/monitor" "$@"
 fi

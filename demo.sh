@@ -4,12 +4,18 @@
 # usage: ./demo.sh [FILE]   (samples/session.txt if none is given)
 # A last line without a newline is handed over as it stands, as a record that was cut off.
 set -eu
-sheet=$(realpath "${1:-"$(dirname "$0")/samples/session.txt"}")
-cd "$(dirname "$0")"
-if awk 'length($0) > 127 { exit 1 }' "$sheet"; then :; else
-  echo "$sheet: a line has more than 127 bytes" >&2
+export LC_ALL=C # a record is counted in bytes
+sheet=${1:-"$(dirname "$0")/samples/session.txt"}
+refuse() {
+  echo "$sheet: $1" >&2
   exit 1
-fi
+}
+[ -e "$sheet" ] || refuse "there is no such file"
+[ -f "$sheet" ] && [ -r "$sheet" ] || refuse "this is no file that can be read"
+if grep -q $'\r' "$sheet"; then refuse "a line ends in a carriage return, as editors on Windows write them: save it with newlines alone"; fi
+if grep -qE '^.{128}' "$sheet"; then refuse "a line has more than 127 bytes"; fi
+sheet=$(realpath "$sheet")
+cd "$(dirname "$0")"
 rt check session > /dev/null || { rt check session; exit 1; }
 bin=$PWD/target/bin/session
 work=$(mktemp -d)

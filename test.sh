@@ -4,22 +4,23 @@
 set -eu
 cd "$(dirname "$0")"
 rt fmt --check
+tests/demo/messages.sh
 
 # The Rust programs stand outside the repository: rt ci removes target/.
 command -v rustc > /dev/null || { apt-get update && apt-get install -y rustc; }
 out=$(mktemp -d)
 trap 'rm -rf "$out"' EXIT
 rustc --edition 2021 -O -o "$out/book" tests/book/main.rs
-"$out/book" crates/runs/data
+"$out/book" crates/test_sessions/data
 
 # Rust and C call the proved code by its static libraries.
-rt check probe host
-rt staticlib probe
+rt check test_probe stand
+rt staticlib test_probe
 rustc --edition 2021 -O -L target/staticlib -o "$out/pasts" tests/pasts/main.rs
 "$out/pasts"
-rt staticlib host
+rt staticlib stand
 command -v cc > /dev/null || { apt-get update && apt-get install -y gcc libc6-dev; }
-cc -std=c99 -Wall -Wextra -Werror -O2 -o "$out/header" tests/header/main.c target/staticlib/libhost.a
+cc -std=c99 -Wall -Wextra -Werror -O2 -o "$out/header" tests/header/main.c target/staticlib/libstand.a
 "$out/header" crates/session/data/session.rec crates/session/stdout
 rustc --edition 2021 -O -L target/staticlib -o "$out/calls" tests/calls/main.rs
 "$out/calls"

@@ -7,8 +7,8 @@ mod clock;
 mod fast;
 // The judge is not measured.
 #[allow(dead_code)]
-#[path = "../../tests/calls/host.rs"]
-mod host;
+#[path = "../../tests/calls/stand.rs"]
+mod stand;
 mod layout;
 mod measure;
 mod proved;

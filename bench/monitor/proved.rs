@@ -1,6 +1,6 @@
 //! The proved monitor, through its static library (`include/stand.h`).
 
-use crate::host;
+use crate::stand;
 use crate::session::{Answers, Session};
 
 /// The first `calls` calls of a session, from a fresh monitor.
@@ -9,7 +9,7 @@ pub fn run(session: &Session, calls: usize, answers: &mut Answers) {
     let records: &[u8] = &session.records[..total(&session.lengths)];
     let replies = &mut answers.replies[..total(&session.sizes)];
     let numbers = &mut answers.numbers[..calls];
-    let told = host::session(
+    let told = stand::session(
         records,
         &session.lengths[..calls],
         replies,

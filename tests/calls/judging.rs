@@ -1,7 +1,7 @@
-//! The judge: sheets, rules and lists of records, and what the book and the host answer.
+//! The judge: sheets, rules and lists of records, and what the book and the library answer.
 
 use crate::acts;
-use crate::host;
+use crate::stand;
 use crate::plain::book::{Book, RECORD};
 use crate::plain::judge::judge;
 use crate::plain::reply;
@@ -40,24 +40,24 @@ pub fn by_book(question: &Question) -> u64 {
 }
 
 /// A copy has a block of just its length, so that a step out of it shows under valgrind.
-pub fn by_host(question: &Question) -> u64 {
+pub fn by_library(question: &Question) -> u64 {
     let sheet = question.sheet.clone();
     let records = question.records.clone();
-    host::judge(&sheet, question.number, &records)
+    stand::judge(&sheet, question.number, &records)
 }
 
 /// What the two answer, where they differ.
 pub fn difference(question: &Question) -> Option<String> {
-    let (book, host) = (by_book(question), by_host(question));
-    if book == host {
+    let (book, library) = (by_book(question), by_library(question));
+    if book == library {
         return None;
     }
     let shown = |answer: u64| format!("refusal {}, answer {}", answer >> 32, answer % REFUSED);
     Some(format!(
-        "judge, rule {}\n  book {}\n  host {}",
+        "judge, rule {}\n  book {}\n  library {}",
         question.number,
         shown(book),
-        shown(host)
+        shown(library)
     ))
 }
 

@@ -7,7 +7,7 @@
 
 mod acts;
 mod file;
-mod host;
+mod stand;
 mod judging;
 mod kinds;
 mod language;

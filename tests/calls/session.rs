@@ -1,6 +1,6 @@
 //! A session: its calls, and what the book and the monitor answer.
 
-use crate::host;
+use crate::stand;
 use crate::plain::book::Book;
 
 /// One call: any record, and a reply buffer of any length as it is lent.
@@ -17,7 +17,7 @@ pub struct Answer {
     pub reply: Vec<u8>,
 }
 
-/// The calls in the form that `host` takes.
+/// The calls in the form that the library takes.
 #[derive(Clone)]
 pub struct Flat {
     pub records: Vec<u8>,
@@ -39,7 +39,7 @@ pub fn flat(calls: &[Call]) -> Flat {
 }
 
 impl Flat {
-    /// What the host gives back: its number, the replies and the numbers.
+    /// What the library gives back: its number, the replies and the numbers.
     /// Each buffer is a block of just its length, so that a step out of one shows under valgrind.
     pub fn ask(self) -> (u32, Box<[u8]>, Box<[u8]>) {
         let records = self.records.into_boxed_slice();
@@ -47,7 +47,7 @@ impl Flat {
         let mut replies = self.replies.into_boxed_slice();
         let sizes = self.sizes.into_boxed_slice();
         let mut numbers = self.numbers.into_boxed_slice();
-        let told = host::session(&records, &lengths, &mut replies, &sizes, &mut numbers);
+        let told = stand::session(&records, &lengths, &mut replies, &sizes, &mut numbers);
         (told, replies, numbers)
     }
 }
@@ -65,7 +65,7 @@ pub fn by_book(calls: &[Call]) -> Vec<Answer> {
 }
 
 /// The monitor's answers, or the number by which the whole session is refused.
-pub fn by_host(calls: &[Call]) -> Result<Vec<Answer>, u32> {
+pub fn by_library(calls: &[Call]) -> Result<Vec<Answer>, u32> {
     let (told, replies, numbers) = flat(calls).ask();
     if told != 0 {
         return Err(told);
@@ -91,16 +91,16 @@ fn shown(answer: &Answer) -> String {
 
 /// The first call, counted from 1, to which the two answer differently, with both answers.
 pub fn difference(calls: &[Call], book: &[Answer]) -> Option<String> {
-    let host = match by_host(calls) {
-        Ok(host) => host,
+    let library = match by_library(calls) {
+        Ok(library) => library,
         Err(told) => return Some(format!("the session is refused by {told}")),
     };
-    let at = book.iter().zip(&host).position(|(b, h)| b != h)?;
+    let at = book.iter().zip(&library).position(|(b, l)| b != l)?;
     Some(format!(
-        "call {}: record \"{}\"\n  book {}\n  host {}",
+        "call {}: record \"{}\"\n  book {}\n  library {}",
         at + 1,
         calls[at].record.escape_ascii(),
         shown(&book[at]),
-        shown(&host[at])
+        shown(&library[at])
     ))
 }

@@ -1,8 +1,8 @@
-//! The exported calls of the crate `probe`, and its coding of events.
+//! The exported calls of the crate `test_probe`, and its coding of events.
 
 pub type Event = Vec<u8>;
 
-#[link(name = "probe", kind = "static")]
+#[link(name = "test_probe", kind = "static")]
 extern "C" {
     #[allow(dead_code)]
     fn probe_past(

@@ -4,11 +4,10 @@ use mathlib.Core.List.{List, [], _∷_, _++_, map}
 use Prim.Native.Nat.{ℕ}
 use lib.ListN.{length, drop}
 use Rattle.lexer.specs.Words.{same}
-use Rattle.patterns.specs.Roles.{freshRoles}
+use Rattle.patterns.specs.Roles.{topName, freshRoles}
 use Rattle.patterns.specs.Meets.{orderOf, meets}
 use Rattle.positions.specs.Matcher.{matches}
 use Rattle.follow.specs.Meaning.{pastMeaning}
-use Rattle.follow.specs.State.{topW}
 use Rattle.chain.specs.Work.{committed, held, unfit, tooLong}
 use Rattle.book.specs.Names.{Event, Roles, Rule, Duty, Outcome}
 use Rattle.book.specs.Decide.{Call, Answer, Decision, refused, newRole, newRule, worked, decide, answer}
@@ -27,7 +26,7 @@ pub record Book : Type 0 where
 
 -- "A fresh book has top, no rules and an empty list."
 abbrev pub freshBook : Book
-freshBook = record { roles = freshRoles topW; rules = []; history = [] }
+freshBook = record { roles = freshRoles topName; rules = []; history = [] }
 
 -- "the rules whose past matches the list from their start on, by Appendix A and the book's roles": `matches-iff` of positions ties `matches` to it
 abbrev pub bookDuty : Roles → List Event → Entry → Duty

@@ -1,7 +1,7 @@
 pub mod Names
 pub mod Decide
 pub mod Book
-pub mod Tracked
+pub mod MachineSteps
 pub mod Session
 pub mod Rows
 pub mod Working

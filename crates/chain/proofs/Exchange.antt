@@ -5,10 +5,10 @@ use mathlib.Core.Bool.{Bool, true, false, cond, _&&_}
 use mathlib.Core.List.{List, [], _∷_, _++_}
 use mathlib.Core.Option.{Option, none, some}
 use Prim.Native.Nat.{ℕ, zero, suc, _-_}
-use Rattle.lexer.proofs.Bools.{true-not-false}
+use Rattle.common.proofs.Bools.{true-not-false}
 use Rattle.grammar.specs.Trees.{Response, pass, hold, send, anew}
 use Rattle.grammar.specs.Names.{responseNames}
-use Rattle.patterns.specs.All.{All}
+use Rattle.common.specs.All.{All}
 use Rattle.patterns.specs.Meets.{Order}
 use Rattle.chain.specs.Work.{Outcome, Duty, fill, chain, onward, respond, work, workEvent}
 use Rattle.chain.specs.Rename.{DutyIn}

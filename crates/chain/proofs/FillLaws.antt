@@ -7,7 +7,7 @@ use mathlib.Core.Option.{Option, none, some}
 use Prim.Native.Nat.{ℕ, zero, suc, _+_, _-_, _<_, _≤_}
 use native.Mathlib.Omega.{arith}
 use lib.ListN.{length, getD, getElem?, drop, take, List·getD-eq-default}
-use Rattle.lexer.proofs.Bools.{true-not-false}
+use Rattle.common.proofs.Bools.{true-not-false}
 use Rattle.grammar.specs.Trees.{Slot, named, place, Template}
 use Rattle.code.specs.Trees.{codeSlots}
 use Rattle.patterns.proofs.Here as at

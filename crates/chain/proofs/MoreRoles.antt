@@ -9,7 +9,7 @@ use lib.ListN.{length, set}
 use lib.Seq.{take-suc-set}
 use Rattle.follow.specs.State.{eventOf}
 use Rattle.follow.specs.declared.state.Event.{Event}
-use Rattle.follow.proofs.Limits.{capped-small}
+use Rattle.follow.proofs.CappedLaws.{capped-small}
 
 -- one role more
 abbrev pub with : Event → ℕ → Event

@@ -7,7 +7,7 @@ use Prim.Native.Nat.{ℕ, zero, suc, _-_}
 use lib.ListN.{getElem?}
 use Rattle.grammar.specs.Trees.{named, place, Template}
 use Rattle.grammar.specs.Names.{slotsNames}
-use Rattle.patterns.specs.All.{All}
+use Rattle.common.specs.All.{All}
 use Rattle.patterns.specs.Meets.{Order, meets}
 use Rattle.chain.specs.Work.{Duty, fillSlot, consFilled, fill, chain}
 use Rattle.chain.specs.Rename.{DutyIn}

@@ -6,7 +6,7 @@ use mathlib.Core.Option.{Option, none, some}
 use Prim.Native.Nat.{ℕ, zero, suc, _-_}
 use Rattle.grammar.specs.Trees.{Response, pass, hold, send, anew}
 use Rattle.grammar.specs.Names.{responseNames}
-use Rattle.patterns.specs.All.{All}
+use Rattle.common.specs.All.{All}
 use Rattle.patterns.specs.Meets.{Order}
 use Rattle.chain.specs.Work.{Outcome, committed, held, unfit, tooLong, Duty, fill, chain, onward, respond, work, workEvent}
 use Rattle.chain.specs.Rename.{DutyIn}

@@ -9,7 +9,7 @@ use lib.ListN.{getElem?}
 use Rattle.grammar.specs.Trees.{Pattern, named, place, Template, Response, pass, hold, send, anew}
 use Rattle.grammar.specs.Rename.{mapPattern, mapSlots, mapResponse}
 use Rattle.grammar.specs.Names.{patternNames, responseNames}
-use Rattle.patterns.specs.All.{All}
+use Rattle.common.specs.All.{All}
 use Rattle.patterns.specs.Meets.{Order, meets}
 use Rattle.patterns.proofs.MeetsLaws.{through, meets-map, meets-agree}
 use Rattle.chain.specs.Work.{Outcome, Duty, fillSlot, consFilled, fill, chain, onward, respond, work, workEvent}

@@ -3,7 +3,7 @@
 use mathlib.Core.List.{map}
 use Rattle.grammar.specs.Rename.{mapPattern, mapResponse}
 use Rattle.grammar.specs.Names.{patternNames, responseNames}
-use Rattle.patterns.specs.All.{All}
+use Rattle.common.specs.All.{All}
 use Rattle.chain.specs.Work.{Outcome, committed, held, unfit, tooLong, Duty}
 
 -- a duty under other names

@@ -6,6 +6,7 @@ use mathlib.Core.List.{List, [], _∷_}
 use mathlib.Core.Option.{Option, none, some}
 use Prim.Native.Nat.{ℕ, zero, suc, _-_}
 use lib.ListN.{getElem?}
+use Rattle.common.specs.Limits.{maxResponses}
 use Rattle.grammar.specs.Trees.{Pattern, Slot, named, place, Template, Response, pass, hold, send, anew}
 use Rattle.patterns.specs.Meets.{Order, meets}
 
@@ -61,11 +62,11 @@ module _ {N R : Type 0} where
 
   -- "Past the end of the chain the act is committed"; "Too long: 64 worked and another due; the due rule decides." The number: responses left to 64.
   unfoldable pub work : (List N → List (Duty N R)) → ℕ → List (Duty N R) → List N → Outcome N R
-  work look zero [] e = committed e 64
+  work look zero [] e = committed e maxResponses
   work look zero (d ∷ rest) e = tooLong (d .rule)
-  work look (suc k) [] e = committed e (64 - suc k)
-  work look (suc k) (d ∷ rest) e = respond look (λ c x. work look k c x) (d .rule) (64 - k) rest e (d .response)
+  work look (suc k) [] e = committed e (maxResponses - suc k)
+  work look (suc k) (d ∷ rest) e = respond look (λ c x. work look k c x) (d .rule) (maxResponses - k) rest e (d .response)
 
   -- "an accepted act stands before commit"
   unfoldable pub workEvent : Order N → List (Duty N R) → List N → Outcome N R
-  workEvent o ds e = work (λ x. chain o ds x) 64 (chain o ds e) e
+  workEvent o ds e = work (λ x. chain o ds x) maxResponses (chain o ds e) e

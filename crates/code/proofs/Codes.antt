@@ -8,7 +8,7 @@ use lib.ListN.{replicate}
 use Rattle.lexer.specs.Class.{classOf}
 use Rattle.lexer.specs.Words.{kindOf, same, nameLike, digitKind, orW}
 use Rattle.lexer.specs.Tokens.{Token, word, mark}
-use Rattle.code.specs.Code.{idOf, letterOf, codeOf, codes}
+use Rattle.code.specs.Code.{idOf, byteOfKind, codeOf, codes}
 use Rattle.grammar.specs.Rename.{mapItem, mapItems, mapSimple, mapCondition, mapTerm, mapPattern, mapPast, mapSequence, mapFactor, mapBase, mapSlots, mapResponse}
 use Rattle.grammar.specs.AsRead.{exact, below, Items, close, starClose, item, anyEvent, items, Condition, term, or, Term, negate, simple, inside, Pattern, plain, bracketed, Past, only, either, Sequence, single, beside, Factor, starred, Base, pattern, nothing, group, named, place, Response, pass, hold, send, anew, Template}
 use Rattle.grammar.specs.Spell.{spellItem, spellItems, spellSimple, spellCondition, spellTerm, spellPattern, spellStars, spellPast, spellSequence, spellFactor, spellBase, spellSlot, spellSlots, spellResponse, spellTail}
@@ -16,7 +16,7 @@ use Rattle.grammar.specs.Valid.{ValidItem, ValidItems, ValidSimple, ValidCondit
 use Rattle.code.specs.Trees.{codeItems, codeSimple, codeCondition, codeTerm, codePattern, codePast, codeSequence, codeFactor, codeBase, codeSlots, codeResponse, codeTail, codeRule}
 
 module _ (ns : List ℕ) where
-  codes-append : (a b : List Token) → codes ns (a ++ b) ≡ codes ns a ++ codes ns b
+  pub codes-append : (a b : List Token) → codes ns (a ++ b) ≡ codes ns a ++ codes ns b
   unfolding codes
   codes-append [] b = refl
   codes-append (t ∷ a) b = ap (λ (l : List ℕ). codeOf ns t ∷ l) (codes-append a b)
@@ -27,7 +27,7 @@ module _ (ns : List ℕ) where
 
   -- a digit's code is the digit
   digit : (n : ℕ) → (1 ≤ n) × (n ≤ 4) → codeOf ns (word ((n + 48) ∷ [])) ≡ n + 48
-  unfolding codeOf kindOf same nameLike digitKind letterOf classOf
+  unfolding codeOf kindOf same nameLike digitKind byteOfKind classOf
   digit zero h = absurd (omega arith)
   digit (suc zero) h = refl
   digit (suc (suc zero)) h = refl
@@ -53,7 +53,7 @@ module _ (ns : List ℕ) where
   items-code (suc k) (item (below w) is) g = rw (name w (g .0)) (ap (λ (l : List ℕ). 43 ∷ (128 + idOf ns w) ∷ l) (items-code k is (g .1)))
 
   mutual
-    unfolding spellCondition spellTerm spellSimple codes codeOf kindOf same letterOf ValidCondition ValidTerm ValidSimple mapCondition mapTerm mapSimple codeCondition codeTerm codeSimple
+    unfolding spellCondition spellTerm spellSimple codes codeOf kindOf same byteOfKind ValidCondition ValidTerm ValidSimple mapCondition mapTerm mapSimple codeCondition codeTerm codeSimple
 
     condition-code : (c : Condition) → ValidCondition c → codes ns (spellCondition c) ≡ codeCondition (mapCondition (idOf ns) c)
     condition-code (term t) g = term-code t g
@@ -66,7 +66,7 @@ module _ (ns : List ℕ) where
     term-code (inside c) g = between 40 41 (spellCondition c) _ (condition-code c g)
 
   pattern-code : (p : Pattern) → ValidPattern p → codes ns (spellPattern p) ≡ codePattern (mapPattern (idOf ns) p)
-  unfolding spellPattern spellSimple codes codeOf kindOf same letterOf ValidPattern ValidSimple mapPattern mapSimple codePattern codeSimple
+  unfolding spellPattern spellSimple codes codeOf kindOf same byteOfKind ValidPattern ValidSimple mapPattern mapSimple codePattern codeSimple
   pattern-code (plain anyEvent) g = refl
   pattern-code (plain (items is)) g = ap (λ (l : List ℕ). 60 ∷ l) (items-code 4 is g)
   pattern-code (bracketed c) g = between 91 93 (spellCondition c) _ (condition-code c g)
@@ -103,7 +103,7 @@ module _ (ns : List ℕ) where
   slots-code (suc k) (place n ∷ xs) g = ap (λ (l : List ℕ). 35 ∷ codeOf ns (word ((n + 48) ∷ [])) ∷ l) (slots-code k xs (g .1)) ∙ ap (λ (d : ℕ). 35 ∷ d ∷ codeSlots (mapSlots (idOf ns) xs)) (digit n (g .0))
 
   response-code : (x : Response) → ValidResponse x → codes ns (spellResponse x) ≡ codeResponse (mapResponse (idOf ns) x)
-  unfolding spellResponse codes codeOf kindOf same letterOf ValidResponse mapResponse codeResponse
+  unfolding spellResponse codes codeOf kindOf same byteOfKind ValidResponse mapResponse codeResponse
   response-code pass g = refl
   response-code hold g = refl
   response-code (send xs) g = ap (λ (l : List ℕ). 115 ∷ 60 ∷ l) (slots-code 4 xs g)

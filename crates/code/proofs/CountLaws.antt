@@ -12,7 +12,7 @@ use borrow.Author.Tests.{eq-eqb, ne-eqb}
 use Rattle.grammar.specs.Trees.{Items, close, starClose, item, exact, below, Simple, anyEvent, items, Condition, term, or, Term, negate, simple, inside, Pattern, plain, bracketed, Past, only, either, Sequence, single, beside, Factor, starred, Base, pattern, nothing, group}
 use Rattle.grammar.specs.Size.{sizePast, sizeSequence, sizeFactor, sizeBase}
 use Rattle.code.specs.Trees.{codeItems, codeSimple, codeCondition, codeTerm, codePattern, codePast, codeSequence, codeFactor, codeBase}
-use Rattle.code.specs.Count.{begins, more, goesInside, patternsFrom, PatternsRead}
+use Rattle.code.specs.Count.{begins, more, goesInside, patternsFrom}
 
 more-adds : (q : Bool) (n : ℕ) → more q n ≡ more q 0 + n
 more-adds true n = omega arith
@@ -114,6 +114,6 @@ mutual
   base-count (group p) rest = rw (append-assoc (codePast p) (41 ∷ []) rest) (past-count p (41 ∷ rest))
 
 -- what is counted over the code is the size of the past that it begins with
-pub count-right : (code : List ℕ) (r : ℕ) → r ≤ length code → r ≡ patternsFrom false code → PatternsRead code r
+pub count-right : (code : List ℕ) (p : Past ℕ) (rest : List ℕ) → code ≡ codePast p ++ (59 ∷ rest) → patternsFrom false code ≡ sizePast p
 unfolding patternsFrom
-count-right code r l e = record { small = l; right = λ p rest h. let a = past-count p (59 ∷ rest) in e ∙ ap (patternsFrom false) h ∙ omega arith }
+count-right code p rest h = let a = past-count p (59 ∷ rest) in ap (patternsFrom false) h ∙ omega arith

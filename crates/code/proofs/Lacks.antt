@@ -1,21 +1,19 @@
--- A name among a rule's tokens is not held where one of its tree's is not.
+-- A name among a rule's tokens has no id where one of its tree's has none.
 -- Assumes nothing.
 use mathlib.Core.Path.{_≡_, refl, ap, sym, _∙_}
-use mathlib.Core.Bool.{Bool, false, not, _||_, or-false}
+use mathlib.Core.Bool.{Bool, false, _||_, or-false}
 use mathlib.Core.List.{List, [], _∷_, _++_}
 use Prim.Native.Nat.{ℕ, zero, suc, _+_, _≤_}
 use native.Mathlib.Omega.{arith}
 use Rattle.lexer.specs.Class.{classOf}
 use Rattle.lexer.specs.Words.{kindOf, same, nameLike, digitKind, orW}
 use Rattle.lexer.specs.Tokens.{Token, word, mark}
-use Rattle.names.specs.Place.{held}
-use Rattle.code.specs.Code.{unheld, anyUnheld}
+use Rattle.code.specs.Code.{noId, unheld, anyUnheld, lacks}
 use Rattle.grammar.specs.Names.{itemsNames, simpleNames, conditionNames, termNames, patternNames, pastNames, sequenceNames, factorNames, baseNames, slotsNames, responseNames, ruleNames}
 use Rattle.grammar.specs.AsRead.{exact, below, Items, close, starClose, item, anyEvent, items, Condition, term, or, Term, negate, simple, inside, Pattern, plain, bracketed, Past, only, either, Sequence, single, beside, Factor, starred, Base, pattern, nothing, group, named, place, Response, pass, hold, send, anew, Template}
 use Rattle.grammar.specs.Spell.{spellItem, spellItems, spellSimple, spellCondition, spellTerm, spellPattern, spellStars, spellPast, spellSequence, spellFactor, spellBase, spellSlot, spellSlots, spellResponse, spellTail}
 use Rattle.grammar.specs.Valid.{ValidItem, ValidItems, ValidSimple, ValidCondition, ValidTerm, ValidPattern, ValidPast, ValidSequence, ValidFactor, ValidBase, ValidSlot, ValidSlots, ValidResponse}
-use Rattle.code.specs.Lines.{lacks}
-use Rattle.lexer.proofs.Bools.{or-assoc}
+use Rattle.common.proofs.Bools.{or-assoc}
 
 module _ (ns : List ℕ) where
   abbrev missing : List Token → Bool
@@ -24,7 +22,7 @@ module _ (ns : List ℕ) where
   abbrev short : List (List ℕ) → Bool
   short ws = lacks ns ws
 
-  missing-append : (a b : List Token) → missing (a ++ b) ≡ (missing a || missing b)
+  pub missing-append : (a b : List Token) → missing (a ++ b) ≡ (missing a || missing b)
   unfolding anyUnheld
   missing-append [] b = refl
   missing-append (t ∷ a) b = ap (λ (q : Bool). unheld ns t || q) (missing-append a b) ∙ or-assoc (unheld ns t) (missing a) (missing b)
@@ -32,9 +30,9 @@ module _ (ns : List ℕ) where
   pub lacks-append : (a b : List (List ℕ)) → short (a ++ b) ≡ (short a || short b)
   unfolding lacks
   lacks-append [] b = refl
-  lacks-append (w ∷ a) b = ap (λ (q : Bool). not (held ns w) || q) (lacks-append a b) ∙ or-assoc (not (held ns w)) (short a) (short b)
+  lacks-append (w ∷ a) b = ap (λ (q : Bool). noId ns w || q) (lacks-append a b) ∙ or-assoc (noId ns w) (short a) (short b)
 
-  name : (w : List ℕ) → kindOf w ≡ 0 → unheld ns (word w) ≡ not (held ns w)
+  name : (w : List ℕ) → kindOf w ≡ 0 → unheld ns (word w) ≡ noId ns w
   unfolding unheld
   name w e = rw e refl
 
@@ -120,7 +118,7 @@ module _ (ns : List ℕ) where
   response-lacks (send xs) g = slots-lack 4 xs g
   response-lacks (anew xs) g = slots-lack 4 xs g
 
-  -- Refusal 6 as the encoder tells it is refusal 6 of the tree: one of the names that it uses is not held.
+  -- Refusal 6 as the encoder tells it is refusal 6 of the tree: one of the names that it uses has no id.
   pub rule-lacks : (p : Past) (t : Pattern) (x : Response) → ValidPast p → ValidPattern t → ValidResponse x → missing (spellPast p ++ spellTail t x) ≡ short (ruleNames p t x)
   unfolding spellTail anyUnheld unheld ruleNames
   rule-lacks p t x g h k =

@@ -1,6 +1,7 @@
 pub mod Codes
 pub mod Lacks
 pub mod IdLaws
+pub mod Filling
 pub mod FrontLaws
 pub mod EncodeLaws
 pub mod CountLaws

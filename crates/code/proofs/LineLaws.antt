@@ -1,97 +1,146 @@
--- The parts of a line, put together.
+-- The parts of a line, put together; and what is told of a text that says a line.
 -- Assumes nothing.
-use mathlib.Core.Path.{_≡_, ap, _∙_}
-use mathlib.Core.Bool.{Bool}
-use mathlib.Core.List.{List, [], _∷_}
-use Prim.Native.Nat.{ℕ, _<_, _≤_}
-use native.Mathlib.Nat.{le-of-lt}
+use mathlib.Core.Path.{_≡_, refl, ap, sym, _∙_}
+use mathlib.Core.Bool.{Bool, true, false}
+use mathlib.Core.List.{List, [], _∷_, _++_}
+use Prim.Native.Nat.{ℕ, _≤_}
 use native.Mathlib.Omega.{arith}
 use lib.Dec.{leb}
-use lib.ListN.{length, take}
-use Rattle.lexer.specs.Tokens.{Token, word, tokens, last, firstWord, Next}
+use lib.ListN.{length, take, drop, length-drop}
+use lib.Seq.{drop-drop}
+use borrow.Author.Tests.{le-leb}
+use Rattle.common.specs.Limits.{maxPatterns}
+use Rattle.lexer.specs.Class.{wordy, spacey, marky}
+use Rattle.lexer.specs.Run.{run, after}
+use Rattle.lexer.specs.Tokens.{Token, tokens, tokensFrom, firstWord, lexemeOf, Next}
+use Rattle.lexer.specs.declared.tokens.Lexeme.{Lexeme}
 use Rattle.lexer.specs.declared.tokens.Lexeme.the-variants.{End, Word, Mark, Other}
-use Rattle.lexer.proofs.TokenLaws.{last-length}
-use Rattle.lexer.proofs.NextLaws.{first-word-is}
+use Rattle.lexer.proofs.NextLaws.{next-means}
+use Rattle.lexer.proofs.TokenLaws.{tokens-after-spaces, tokens-word, tokens-mark, tokens-other, tokens-length}
 use Rattle.names.specs.Name.{packed}
 use Rattle.names.specs.Place.{place}
-use Rattle.grammar.specs.AsRead.{Past, Pattern, Response, rule}
-use Rattle.grammar.specs.Rename.{mapPast}
+use Rattle.grammar.specs.Trees as trees
+use Rattle.grammar.specs.AsRead.{Past, Pattern, Response, rule, role}
+use Rattle.grammar.specs.Rename.{mapPast, mapPattern, mapResponse}
+use Rattle.grammar.specs.Names.{ruleNames}
+use Rattle.grammar.specs.Size.{sizePast}
 use Rattle.grammar.specs.Spell.{spellLine}
 use Rattle.grammar.specs.Valid.{ValidLine}
 use Rattle.grammar.specs.Lines.{Says}
 use Rattle.grammar.proofs.RenameLaws.{size-map}
-use Rattle.code.specs.Code.{idOf, codes, anyUnheld}
-use Rattle.code.specs.Trees.{codeTail, codeRule}
-use Rattle.code.specs.Encoded.{Few, Encodes}
-use Rattle.code.specs.Count.{limit, PatternsRead}
-use Rattle.code.specs.Lines.{AfterFirst, FewRead, RuleTold, RuleRead, RoleRead}
+use Rattle.code.specs.Code.{idOf, codes, anyUnheld, lacks}
+use Rattle.code.specs.Trees.{codePast, codeTail, codeRule}
+use Rattle.code.specs.Encoded.{codeSize, encodedOf}
+use Rattle.code.specs.Lines.{leftBy, afterFirst, leadingWord, nameIn, fewIn, ruleLineOf, roleLineOf}
 use Rattle.code.specs.declared.encode.Encoded.{Encoded}
+use Rattle.code.specs.declared.lines.RuleLine.{RuleLine}
+use Rattle.code.specs.declared.lines.RoleLine.{RoleLine}
+use Rattle.code.proofs.CountLaws.{count-right}
 use Rattle.code.proofs.Codes.{rule-code}
 use Rattle.code.proofs.Lacks.{rule-lacks}
+use Rattle.code.proofs.EncodeLaws.{encoded-small, encoded-codes, encoded-unknown}
 
--- what is left after the first token
+-- what is left after the first token, by any answer of `next`
+pub after-first-is : (s r : List ℕ) (l : Lexeme) → l ≡ lexemeOf s → r ≡ leftBy l s → r ≡ afterFirst s
+unfolding afterFirst
+after-first-is s r l e q = q ∙ ap (λ (m : Lexeme). leftBy m s) e
 
-after-last : (s r : List ℕ) (t : Token) (n : ℕ) → n < length s → tokens s ≡ t ∷ tokens (last n s) → r ≡ last n s → AfterFirst s r
-after-last s r t n l e q = record {
-  fits = omega (arith, ap length q, last-length n s (le-of-lt l));
-  right = λ u ts h. let x : tokens (last n s) ≡ ts = cc in ap tokens q ∙ x;
-}
+left-tokens : (s : List ℕ) (l : Lexeme) → Next s l → tokens (leftBy l s) ≡ drop 1 (tokens s)
+unfolding Next
+left-tokens s End h = rw h refl
+left-tokens s (Word k n) h = sym (ap (drop 1) (h .1 .2))
+left-tokens s (Mark b n) h = sym (ap (drop 1) (h .1))
+left-tokens s (Other b n) h = sym (ap (drop 1) (h .1))
 
-module _ (s r : List ℕ) where
-  pub after-end : Next s End → AfterFirst s s
-  unfolding Next
-  after-end h = record { fits = omega arith; right = λ t ts e. let z : _≡_ {A = ℕ} 0 1 = cc in absurd (omega arith) }
+-- it has the tokens after the first
+one-dropped : (s r : List ℕ) → r ≡ afterFirst s → tokens r ≡ drop 1 (tokens s)
+unfolding afterFirst
+one-dropped s r e = ap tokens e ∙ left-tokens s (lexemeOf s) (next-means s (lexemeOf s) refl)
 
-  pub after-word : (k n : ℕ) → Next s (Word k n) → r ≡ last n s → AfterFirst s r
-  unfolding Next
-  after-word k n h q = after-last s r (word (h .1 .0)) n (h .0) (h .1 .2) q
+-- the word in front of a text is its first token, where that is a word
+pub front-word : (s : List ℕ) → firstWord s ≡ leadingWord (tokens s)
+unfolding run after tokensFrom
+front-word [] = refl
+front-word (b ∷ s) = go (spacey b) (wordy b) (marky b) refl refl refl (front-word s)
+  where
+    stays : spacey b ≡ false → firstWord (b ∷ s) ≡ run wordy (b ∷ s)
+    stays e = rw e refl
 
-  pub after-mark : (b n : ℕ) → Next s (Mark b n) → r ≡ last n s → AfterFirst s r
-  unfolding Next
-  after-mark b n h q = after-last s r _ n (h .0) (h .1) q
+    none : wordy b ≡ false → run wordy (b ∷ s) ≡ []
+    none e = rw e refl
 
-  pub after-other : (b n : ℕ) → Next s (Other b n) → r ≡ last n s → AfterFirst s r
-  unfolding Next
-  after-other b n h q = after-last s r _ n (h .0) (h .1) q
+    go : (p w m : Bool) → spacey b ≡ p → wordy b ≡ w → marky b ≡ m → firstWord s ≡ leadingWord (tokens s) → firstWord (b ∷ s) ≡ leadingWord (tokens (b ∷ s))
+    go true w m e h k ih =
+        let q : after spacey (b ∷ s) ≡ after spacey s = rw e refl in
+        ap (run wordy) q ∙ ih ∙ ap leadingWord (sym (tokens-after-spaces s) ∙ ap tokens (sym q) ∙ tokens-after-spaces (b ∷ s))
+    go false true m e h k ih = stays e ∙ sym (ap leadingWord (tokens-word b s h))
+    go false false true e h k ih = stays e ∙ none h ∙ sym (ap leadingWord (tokens-mark b s k))
+    go false false false e h k ih = stays e ∙ none h ∙ sym (ap leadingWord (tokens-other b s k h e))
 
--- the word in front of a text, packed
-leading-is : (s w : List ℕ) (ts : List Token) (n : ℕ) → n ≡ packed (firstWord s) → tokens s ≡ word w ∷ ts → n ≡ packed w
-leading-is s w ts n q e = q ∙ ap packed (first-word-is s w ts e)
+-- the parts put together
 
--- the count of the patterns
-pub few-read : (body : Encoded) (n : ℕ) → PatternsRead (take (body .len) (body .code)) n → FewRead body (leb n limit)
-few-read body n h = record { right = λ l p rest e. ap (λ (m : ℕ). leb m limit) (h .right p rest e) }
+module _ (ns s second third fourth : List ℕ) (a : second ≡ afterFirst s) (b : third ≡ afterFirst second) (c : fourth ≡ afterFirst third) where
+  fourth-is : tokens fourth ≡ drop 3 (tokens s)
+  fourth-is =
+      one-dropped third fourth c ∙ ap (drop 1) (one-dropped second third b ∙ ap (drop 1) (one-dropped s second a) ∙ drop-drop 1 1 (tokens s)) ∙ drop-drop 1 2 (tokens s)
 
--- a rule line
+  second-name : nameIn 0 second ≡ nameIn 1 s
+  second-name = ap (λ (ts : List Token). packed (leadingWord ts)) (one-dropped s second a)
 
-module _ (ns s named colon t : List ℕ) (a : AfterFirst s named) (b : AfterFirst named colon) (c : AfterFirst colon t) where
-  rule-told : (name : ℕ) (fits : Bool) (body : Encoded) → name ≡ packed (firstWord named) → Encodes ns t body → FewRead body fits
-      → length s ≤ 126 → Few ns → (w : List ℕ) (p : Past) (q : Pattern) (x : Response) → Says s (rule w p q x)
-      → RuleTold ns w p q x (record { name = name; fits = fits; body = body })
-  unfolding spellLine ValidLine codeRule codeTail
-  rule-told name fits body n e f l few w p q x h =
-      let named-is = a .right _ _ (h .spelled) in
-      let body-is = c .right _ _ (b .right _ _ named-is) in
-      let short : length t ≤ 126 = omega (arith, a .fits, b .fits, c .fits) in
-      let g = h .valid in
-      let k = e .code short few ∙ ap (codes ns) body-is ∙ rule-code ns p q x (g .1 .0) (g .1 .1 .0) (g .1 .1 .1) in
-      record {
-        name = leading-is named w _ name n named-is;
-        code = k;
-        unknown = e .unknown short few ∙ ap (anyUnheld ns) body-is ∙ rule-lacks ns p q x (g .1 .0) (g .1 .1 .0) (g .1 .1 .1);
-        fits = f .right (e .fits) (mapPast (idOf ns) p) _ k ∙ ap (λ (m : ℕ). leb m limit) (size-map (idOf ns) p);
-      }
+  pub rule-read : (name : ℕ) (fits : Bool) (body : Encoded) → name ≡ nameIn 0 second → body ≡ encodedOf ns (tokens fourth) → fits ≡ fewIn body
+      → record { name = name; fits = fits; body = body } ≡ ruleLineOf ns s
+  unfolding ruleLineOf
+  rule-read name fits body n e f =
+      let q : body ≡ encodedOf ns (drop 3 (tokens s)) = e ∙ ap (encodedOf ns) fourth-is in
+      let m = n ∙ second-name in
+      let g = f ∙ ap fewIn q in
+      λ i. record { name = m i; fits = g i; body = q i }
 
-  pub rule-read : (name : ℕ) (fits : Bool) (body : Encoded) → name ≡ packed (firstWord named) → Encodes ns t body → FewRead body fits
-      → RuleRead ns s (record { name = name; fits = fits; body = body })
-  rule-read name fits body n e f = record { small = e .fits; right = rule-told name fits body n e f }
+  pub role-read : (name parent x : ℕ) → name ≡ nameIn 0 second → x ≡ nameIn 0 fourth → parent ≡ place x ns → record { name = name; parent = parent } ≡ roleLineOf ns s
+  unfolding roleLineOf
+  role-read name parent x n m f =
+      let p = n ∙ second-name in
+      let q : parent ≡ place (nameIn 3 s) ns = f ∙ ap (λ (y : ℕ). place y ns) (m ∙ ap (λ (ts : List Token). packed (leadingWord ts)) fourth-is) in
+      λ i. record { name = p i; parent = q i }
 
--- a role line
+-- what is told of a text that says a rule: its name; its code, that of its tree with ids; whether it names a role that has no id (refusal 6); whether its
+-- patterns are few enough (refusal 7)
+pub record RuleTold (ns w : List ℕ) (p : Past) (t : Pattern) (x : Response) (r : RuleLine) : Type 0 where
+  pub small : r .body .len ≤ codeSize
+  pub name : r .name ≡ packed w
+  pub code : take (r .body .len) (r .body .code) ≡ codeRule (mapPast (idOf ns) p) (mapPattern (idOf ns) t) (mapResponse (idOf ns) x)
+  pub unknown : r .body .unknown ≡ lacks ns (ruleNames p t x)
+  pub fits : r .fits ≡ leb (sizePast p) maxPatterns
 
-pub role-read : (ns s named under t : List ℕ) (name parent x : ℕ) → AfterFirst s named → AfterFirst named under → AfterFirst under t
-    → name ≡ packed (firstWord named) → x ≡ packed (firstWord t) → parent ≡ place x ns → RoleRead ns s (record { name = name; parent = parent })
-unfolding spellLine
-role-read ns s named under t name parent x a b c n m f = record {
-  name = λ w p h. leading-is named w _ name n (a .right _ _ (h .spelled));
-  parent = λ w p h. f ∙ ap (λ (y : ℕ). place y ns) (leading-is t p [] x m (c .right _ _ (b .right _ _ (a .right _ _ (h .spelled)))));
+-- a body that begins with a past is told few by the past's size
+few-told : (body : Encoded) → body .len ≤ codeSize → (p : trees.Past ℕ) (rest : List ℕ) → take (body .len) (body .code) ≡ codePast p ++ (59 ∷ rest) → fewIn body ≡ leb (sizePast p) maxPatterns
+unfolding fewIn
+few-told body l p rest e = rw (le-leb (body .len) codeSize l) (ap (λ (m : ℕ). leb m maxPatterns) (count-right _ p rest e))
+
+pub rule-told : (ns s : List ℕ) → length s ≤ codeSize → (w : List ℕ) (p : Past) (q : Pattern) (x : Response) → Says s (rule w p q x) → RuleTold ns w p q x (ruleLineOf ns s)
+unfolding ruleLineOf spellLine ValidLine codeRule codeTail
+rule-told ns s l w p q x h =
+    let ts = drop 3 (tokens s) in
+    let body-is = ap (drop 3) (h .spelled) in
+    let short : length ts ≤ codeSize = omega (arith, length-drop 3 (tokens s), tokens-length false s) in
+    let g = h .valid in
+    let k = encoded-codes ns ts short ∙ ap (codes ns) body-is ∙ rule-code ns p q x (g .1 .0) (g .1 .1 .0) (g .1 .1 .1) in
+    record {
+      small = encoded-small ns ts;
+      name = ap (λ (us : List Token). packed (leadingWord (drop 1 us))) (h .spelled);
+      code = k;
+      unknown = encoded-unknown ns ts short ∙ ap (anyUnheld ns) body-is ∙ rule-lacks ns p q x (g .1 .0) (g .1 .1 .0) (g .1 .1 .1);
+      fits = few-told _ (encoded-small ns ts) (mapPast (idOf ns) p) _ k ∙ ap (λ (m : ℕ). leb m maxPatterns) (size-map (idOf ns) p);
+    }
+
+-- what is told of a text that says a role: its name, and the place of its parent among those held
+pub record RoleTold (ns w p : List ℕ) (r : RoleLine) : Type 0 where
+  pub name : r .name ≡ packed w
+  pub parent : r .parent ≡ place (packed p) ns
+
+pub role-told : (ns s w p : List ℕ) → Says s (role w p) → RoleTold ns w p (roleLineOf ns s)
+unfolding roleLineOf spellLine
+role-told ns s w p h = record {
+  name = ap (λ (us : List Token). packed (leadingWord (drop 1 us))) (h .spelled);
+  parent = ap (λ (us : List Token). place (packed (leadingWord (drop 3 us))) ns) (h .spelled);
 }

@@ -6,7 +6,6 @@ use Prim.Native.Nat.{ℕ}
 use Rattle.lexer.specs.Tokens.{word, mark, other, firstWord, Next}
 use Rattle.lexer.specs.declared.tokens.Lexeme.the-variants as lexeme
 use Rattle.code.specs.Code.{idOf}
-use Rattle.code.specs.Encoded.{IdRead}
 use Rattle.code.specs.Events.{NameAt}
 use Rattle.code.specs.declared.events.Part.the-variants.{End, Name, Other}
 
@@ -27,6 +26,6 @@ module _ (ns s : List ℕ) where
   unfolding Next NameAt
   at-word k n h z = (word (h .1 .0), _, h .1 .2, λ e. z (sym (h .1 .1) ∙ e))
 
-  pub at-name : (k n i : ℕ) (u : List ℕ) → Next s (lexeme.Word k n) → k ≡ 0 → u ≡ firstWord s → IdRead ns u i → NameAt ns s (Name i n)
+  pub at-name : (k n i : ℕ) (u : List ℕ) → Next s (lexeme.Word k n) → k ≡ 0 → u ≡ firstWord s → i ≡ idOf ns u → NameAt ns s (Name i n)
   unfolding Next NameAt
-  at-name k n i u h z q r = (h .0, (h .1 .0, h .1 .1 ∙ z, h .1 .2, λ f. r .right f ∙ ap (idOf ns) (q ∙ h .1 .3)))
+  at-name k n i u h z q r = (h .0, (h .1 .0, h .1 .1 ∙ z, h .1 .2, r ∙ ap (idOf ns) (q ∙ h .1 .3)))

@@ -1,19 +1,10 @@
 -- How many patterns a past has, told from its code. Document 01: "A rule line has at most 31 patterns in its past; a bracketed condition counts as one."
 -- Assumes nothing.
-use mathlib.Core.Path.{_≡_}
 use mathlib.Core.Bool.{Bool, true, false, cond, not}
-use mathlib.Core.List.{List, [], _∷_, _++_}
-use Prim.Native.Nat.{ℕ, suc, _≤_}
+use mathlib.Core.List.{List, [], _∷_}
+use Prim.Native.Nat.{ℕ, suc}
 use lib.Dec.{eqb}
-use lib.ListN.{length}
 use Rattle.lexer.specs.Class.{among}
-use Rattle.grammar.specs.Trees.{Past}
-use Rattle.grammar.specs.Size.{sizePast}
-use Rattle.code.specs.Trees.{codePast}
-
--- "at most 31 patterns": refusal 7 is above it
-abbrev pub limit : ℕ
-limit = 31
 
 -- whether a byte of code begins a pattern, inside square brackets or not: any, < or [
 abbrev pub begins : Bool → ℕ → Bool
@@ -34,8 +25,3 @@ goesInside false b = eqb b 91
 unfoldable pub patternsFrom : Bool → List ℕ → ℕ
 patternsFrom inside [] = 0
 patternsFrom inside (b ∷ c) = cond (eqb b 59) 0 (more (begins inside b) (patternsFrom (goesInside inside b) c))
-
--- of a code that begins with a past and `;`: the past's number of patterns
-pub record PatternsRead (code : List ℕ) (r : ℕ) : Type 0 where
-  pub small : r ≤ length code
-  pub right : (p : Past ℕ) (rest : List ℕ) → code ≡ codePast p ++ (59 ∷ rest) → r ≡ sizePast p

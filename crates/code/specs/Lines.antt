@@ -1,56 +1,52 @@
--- What reading a line tells, with ids for the names held.
+-- What reading a line tells, with ids for the names held. The tokens of a line stand at fixed places: `role NAME under NAME`, `rule NAME : ..`.
 -- Assumes nothing.
-use mathlib.Core.Path.{_≡_}
-use mathlib.Core.Bool.{Bool, false, not, _||_}
-use mathlib.Core.List.{List, [], _∷_, _++_}
-use Prim.Native.Nat.{ℕ, _≤_}
+use mathlib.Core.Bool.{Bool, false, _&&_}
+use mathlib.Core.List.{List, [], _∷_}
+use Prim.Native.Nat.{ℕ}
 use lib.Dec.{leb}
-use lib.ListN.{length, take}
-use Rattle.lexer.specs.Tokens.{Token, tokens}
+use lib.ListN.{take, drop}
+use Rattle.common.specs.Limits.{maxPatterns}
+use Rattle.lexer.specs.Tokens.{Token, word, mark, other, tokens, last, lexemeOf}
+use Rattle.lexer.specs.declared.tokens.Lexeme.{Lexeme}
+use Rattle.lexer.specs.declared.tokens.Lexeme.the-variants.{End, Word, Mark, Other}
 use Rattle.names.specs.Name.{packed}
-use Rattle.names.specs.Place.{place, held}
-use Rattle.grammar.specs.Trees as trees
-use Rattle.grammar.specs.AsRead.{Past, Pattern, Response, role, rule}
-use Rattle.grammar.specs.Rename.{mapPast, mapPattern, mapResponse}
-use Rattle.grammar.specs.Names.{ruleNames}
-use Rattle.grammar.specs.Size.{sizePast}
-use Rattle.grammar.specs.Lines.{Says}
-use Rattle.code.specs.Code.{idOf}
-use Rattle.code.specs.Trees.{codePast, codeRule}
-use Rattle.code.specs.Encoded.{Few}
-use Rattle.code.specs.Count.{limit}
+use Rattle.names.specs.Place.{place}
+use Rattle.code.specs.Encoded.{codeSize, encodedOf}
+use Rattle.code.specs.Count.{patternsFrom}
 use Rattle.code.specs.declared.encode.Encoded.{Encoded}
 use Rattle.code.specs.declared.lines.RuleLine.{RuleLine}
 use Rattle.code.specs.declared.lines.RoleLine.{RoleLine}
 
--- one of some names is not held
-unfoldable pub lacks : List ℕ → List (List ℕ) → Bool
-lacks ns [] = false
-lacks ns (w ∷ ws) = not (held ns w) || lacks ns ws
+-- the bytes of a text that a lexeme leaves; all of them where there is no token
+abbrev pub leftBy : Lexeme → List ℕ → List ℕ
+leftBy End s = s
+leftBy (Word k n) s = last n s
+leftBy (Mark b n) s = last n s
+leftBy (Other b n) s = last n s
 
--- what is left after the first token
-pub record AfterFirst (s r : List ℕ) : Type 0 where
-  pub fits : length r ≤ length s
-  pub right : (t : Token) (ts : List Token) → tokens s ≡ t ∷ ts → tokens r ≡ ts
+-- what is left of a text after its first token
+unfoldable pub afterFirst : List ℕ → List ℕ
+afterFirst s = leftBy (lexemeOf s) s
 
--- whether the past that a body begins with has at most 31 patterns
-pub record FewRead (body : Encoded) (r : Bool) : Type 0 where
-  pub right : body .len ≤ 126 → (p : trees.Past ℕ) (rest : List ℕ) → take (body .len) (body .code) ≡ codePast p ++ (59 ∷ rest) → r ≡ leb (sizePast p) limit
+-- the word in front of some tokens; no bytes where another token stands there, or none
+abbrev pub leadingWord : List Token → List ℕ
+leadingWord [] = []
+leadingWord (word w ∷ ts) = w
+leadingWord (mark b ∷ ts) = []
+leadingWord (other b ∷ ts) = []
 
--- of a rule line: its name; its code, that of its tree with ids; whether it names a role that is not held (refusal 6); whether its patterns
--- are few enough (refusal 7)
-pub record RuleTold (ns w : List ℕ) (p : Past) (t : Pattern) (x : Response) (r : RuleLine) : Type 0 where
-  pub name : r .name ≡ packed w
-  pub code : take (r .body .len) (r .body .code) ≡ codeRule (mapPast (idOf ns) p) (mapPattern (idOf ns) t) (mapResponse (idOf ns) x)
-  pub unknown : r .body .unknown ≡ lacks ns (ruleNames p t x)
-  pub fits : r .fits ≡ leb (sizePast p) limit
+-- the word that is token i of a text, packed; the first token is 0
+abbrev pub nameIn : ℕ → List ℕ → ℕ
+nameIn i s = packed (leadingWord (drop i (tokens s)))
 
--- what reading a rule line promises, of any text and of one in the language
-pub record RuleRead (ns s : List ℕ) (r : RuleLine) : Type 0 where
-  pub small : r .body .len ≤ 126
-  pub right : length s ≤ 126 → Few ns → (w : List ℕ) (p : Past) (t : Pattern) (x : Response) → Says s (rule w p t x) → RuleTold ns w p t x r
+-- "at most 31 patterns in its past": as many begin in the code before its first `;`; a length that no code has is too many
+unfoldable pub fewIn : Encoded → Bool
+fewIn b = leb (b .len) codeSize && leb (patternsFrom false (take (b .len) (b .code))) maxPatterns
 
--- of a role line: its name, and the place of its parent among those held
-pub record RoleRead (ns s : List ℕ) (r : RoleLine) : Type 0 where
-  pub name : (w p : List ℕ) → Says s (role w p) → r .name ≡ packed w
-  pub parent : (w p : List ℕ) → Says s (role w p) → r .parent ≡ place (packed p) ns
+-- "rule, a name, `:`, a past, `;`, a pattern (the trigger), `;`, a response": the name is token 1, and what stands after token 2 is the body
+unfoldable pub ruleLineOf : List ℕ → List ℕ → RuleLine
+ruleLineOf ns s = record { name = nameIn 1 s; fits = fewIn (encodedOf ns (drop 3 (tokens s))); body = encodedOf ns (drop 3 (tokens s)) }
+
+-- "role, a name, under, a name (its parent)": the name is token 1, and the parent token 3, told by its place among the names held
+unfoldable pub roleLineOf : List ℕ → List ℕ → RoleLine
+roleLineOf ns s = record { name = nameIn 1 s; parent = place (nameIn 3 s) ns }

@@ -1,9 +1,7 @@
 // The number of patterns in a past, counted over its code.
 ghost use mathlib.Core.Path.{_≡_};
-ghost use Rattle.code.specs.Count.{begins, more, goesInside, PatternsRead};
-
-// The most patterns that a past may have.
-pub const LIMIT: usize = 31;
+ghost use mathlib.Core.Bool.{false};
+ghost use Rattle.code.specs.Count.{begins, more, goesInside, patternsFrom};
 
 // 1 where a byte begins a pattern, inside square brackets or not, and 0 elsewhere.
 fn begun(inside: bool, b: u8) -> usize
@@ -36,7 +34,7 @@ fn goes_inside(inside: bool, b: u8) -> bool
 
 // How many patterns begin before the first `;`.
 pub fn patterns(code: &[u8]) -> usize
-    ensures { λ r. ⌜ PatternsRead (now (code .entry)) r ⌝ }
+    ensures { λ r. ⌜ r ≡ patternsFrom false (now (code .entry)) ⌝ }
 {
     let mut inside = false;
     let mut n: usize = 0;

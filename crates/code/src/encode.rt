@@ -7,8 +7,9 @@ use lexer::next;
 use lexer::rest;
 use lexer::words::NAME;
 ghost use mathlib.Core.Path.{_≡_};
-ghost use Rattle.code.specs.Code.{letterOf};
-ghost use Rattle.code.specs.Encoded.{Front, Encodes};
+ghost use Rattle.code.specs.Code.{byteOfKind};
+ghost use Rattle.lexer.specs.Tokens.{tokens};
+ghost use Rattle.code.specs.Encoded.{Front, encodedOf};
 
 // The byte of each kind of word: a keyword's letter, or the digit.
 const LETTERS: [u8; 22] = [
@@ -51,7 +52,7 @@ pub enum Piece {
 
 // The byte of a word that is no name, by its kind.
 fn letter(k: u8) -> u8
-    ensures { λ r. ⌜ r ≡ letterOf k ⌝ }
+    ensures { λ r. ⌜ r ≡ byteOfKind k ⌝ }
 {
     if k < 22 {
         return LETTERS[k as usize];
@@ -80,7 +81,7 @@ fn front(s: &[u8], names: &[u64]) -> Piece
 
 // The tokens of a text as code. A text with more than 126 tokens is cut there.
 pub fn encode(text: &[u8], names: &[u64]) -> Encoded
-    ensures { λ r. ⌜ Encodes (now (names .entry)) (now (text .entry)) r ⌝ }
+    ensures { λ r. ⌜ r ≡ encodedOf (now (names .entry)) (tokens (now (text .entry))) ⌝ }
 {
     let mut code = [0u8; 126];
     let mut len: usize = 0;

@@ -1,13 +1,14 @@
 // An event's text (document 01: act), read in one pass: whether it is in the language, and the ids of its roles.
 use crate::ids::UNHELD;
 use crate::ids::id_of;
+use common::sizes::EVENT_SIZE;
 use lexer::Lexeme;
 use lexer::first_word;
 use lexer::next;
 use lexer::rest;
 use lexer::words::NAME;
 ghost use mathlib.Core.Path.{_≡_};
-ghost use Rattle.code.specs.Events.{noEvent, NameAt, EventRead};
+ghost use Rattle.code.specs.Events.{noEvent, NameAt, eventLineOf};
 
 // An event's text, read: whether it is in the language; if it is, the ids of its roles, of which len count, and whether one is not held.
 pub struct EventLine {
@@ -56,7 +57,7 @@ fn no_event() -> EventLine
 
 // An event's text, read. A name that is not held does not end the pass: what follows may not be in the language, and that is told first.
 pub fn event_line(text: &[u8], names: &[u64]) -> EventLine
-    ensures { λ r. ⌜ EventRead (now (names .entry)) (now (text .entry)) r ⌝ }
+    ensures { λ r. ⌜ r ≡ eventLineOf (now (names .entry)) (now (text .entry)) ⌝ }
 {
     let mut roles = [0u8; 4];
     let mut len: usize = 0;
@@ -75,7 +76,7 @@ pub fn event_line(text: &[u8], names: &[u64]) -> EventLine
             }
             Part::Other => return no_event(),
             Part::Name(i, n) => {
-                if 4 <= len {
+                if EVENT_SIZE <= len {
                     return no_event();
                 }
                 roles[len] = i;

@@ -1,12 +1,13 @@
 // The id of a name, by the names held.
-ghost use Rattle.code.specs.Encoded.{IdRead};
+ghost use mathlib.Core.Path.{_≡_};
+ghost use Rattle.code.specs.Code.{idOf};
 
-// The id of a name that is not held, which no role has.
+// The id that no role has: of a name that is not held, and of one held past the ids of seven bits.
 pub const UNHELD: u8 = 127;
 
-// The id of a name: its place among those held.
+// The id of a name: its place among those held, where that is an id of seven bits.
 pub fn id_of(w: &[u8], names: &[u64]) -> u8
-    ensures { λ r. ⌜ IdRead (now (names .entry)) (now (w .entry)) r ⌝ }
+    ensures { λ r. ⌜ r ≡ idOf (now (names .entry)) (now (w .entry)) ⌝ }
 {
     let at = names::find(names, names::pack(w));
     if at < names.len() {

@@ -1,16 +1,14 @@
 // Lines read to ids: what the monitor needs of a text that is in the language.
-use crate::count::LIMIT;
 use crate::count::patterns;
 use crate::encode::Encoded;
 use crate::encode::encode;
+use common::sizes::MAX_PATTERNS;
 use lexer::Lexeme;
 use lexer::first_word;
 use lexer::next;
 use lexer::rest;
 ghost use mathlib.Core.Path.{_≡_};
-ghost use Rattle.lexer.specs.Tokens.{firstWord};
-ghost use Rattle.names.specs.Name.{packed};
-ghost use Rattle.code.specs.Lines.{AfterFirst, FewRead, RuleRead, RoleRead};
+ghost use Rattle.code.specs.Lines.{afterFirst, nameIn, fewIn, ruleLineOf, roleLineOf};
 
 // A rule line: its name, its code after `rule NAME :`, and whether its past has few enough patterns.
 pub struct RuleLine {
@@ -25,9 +23,9 @@ pub struct RoleLine {
     pub parent: usize,
 }
 
-// What is left after the first token.
+// What is left after the first token; all of it where there is none.
 fn after_first(s: &[u8]) -> &[u8]
-    ensures { λ r. ⌜ AfterFirst (now (s .entry)) (now r) ⌝ }
+    ensures { λ r. ⌜ now r ≡ afterFirst (now (s .entry)) ⌝ }
 {
     match next(s) {
         Lexeme::End => s,
@@ -39,26 +37,26 @@ fn after_first(s: &[u8]) -> &[u8]
 
 // The word in front, packed.
 fn leading(s: &[u8]) -> u64
-    ensures { λ r. ⌜ r ≡ packed (firstWord (now (s .entry))) ⌝ }
+    ensures { λ r. ⌜ r ≡ nameIn 0 (now (s .entry)) ⌝ }
 {
     names::pack(first_word(s))
 }
 
 // Whether a rule's past has few enough patterns. Refusal 7 stands here alone.
 fn few(body: Encoded) -> bool
-    ensures { λ r. ⌜ FewRead body r ⌝ }
+    ensures { λ r. ⌜ r ≡ fewIn body ⌝ }
 {
     let code = body.code;
     let len = body.len;
     if 126 < len {
         return false;
     }
-    patterns(&code[..len]) <= LIMIT
+    patterns(&code[..len]) <= MAX_PATTERNS
 }
 
 // A rule line, read: the name after the first word, and the code of what stands after the name and the colon.
 pub fn rule_line(text: &[u8], names: &[u64]) -> RuleLine
-    ensures { λ r. ⌜ RuleRead (now (names .entry)) (now (text .entry)) r ⌝ }
+    ensures { λ r. ⌜ r ≡ ruleLineOf (now (names .entry)) (now (text .entry)) ⌝ }
 {
     let named = after_first(text);
     let name = leading(named);
@@ -74,7 +72,7 @@ pub fn rule_line(text: &[u8], names: &[u64]) -> RuleLine
 
 // A role line, read: the name after the first word, and the name after the third.
 pub fn role_line(text: &[u8], names: &[u64]) -> RoleLine
-    ensures { λ r. ⌜ RoleRead (now (names .entry)) (now (text .entry)) r ⌝ }
+    ensures { λ r. ⌜ r ≡ roleLineOf (now (names .entry)) (now (text .entry)) ⌝ }
 {
     let second = after_first(text);
     let name = leading(second);

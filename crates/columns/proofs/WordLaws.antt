@@ -9,10 +9,12 @@ use native.Mathlib.Omega.{arith}
 use lib.ListN.{length, take, drop, getD, length-append}
 use lib.Seq.{take-suc, drop-cons, take-all}
 use borrow.Author.Tests.{eq-eqb, ne-eqb}
+use Rattle.common.specs.All.{All}
+use Rattle.common.proofs.AllLaws.{all-of, all-mapped}
 use Rattle.lexer.specs.Run.{run}
 use Rattle.lexer.proofs.RunLaws.{run-stop, run-end, no-length}
 use Rattle.names.specs.Name.{columnAt}
-use Rattle.names.specs.Unpacked.{inked, columnsOf, unpacked}
+use Rattle.names.specs.Unpacked.{notSpace, columnsOf, unpacked}
 use Rattle.names.proofs.UnpackedLaws.{unpacked-length, column-among}
 use Rattle.columns.specs.Texts.{spaced, before}
 use Rattle.columns.specs.Writing.{Writes}
@@ -22,7 +24,7 @@ use Rattle.columns.proofs.WriteLaws.{writes-none, writes-then, writes-s
 pub record Spelling (n at : ℕ) (lent now : List ℕ) (next i : ℕ) : Type 0 where
   pub within : i ≤ 8
   pub written : Writes at (take i (columnsOf n)) lent now next
-  pub left : unpacked n ≡ take i (columnsOf n) ++ run inked (drop i (columnsOf n))
+  pub left : unpacked n ≡ take i (columnsOf n) ++ run notSpace (drop i (columnsOf n))
 
 pub spelling-start : (n at : ℕ) (lent : List ℕ) → Spelling n at lent lent at 0
 unfolding unpacked
@@ -30,36 +32,36 @@ spelling-start n at lent = record { within = zero-le; written = writes-none at l
 
 module _ {n at : ℕ} {lent now : List ℕ} {next i : ℕ} (w : Spelling n at lent now next i) where
   pub spelling-more : {after : List ℕ} {p b : ℕ} → i < 8 → b ≡ columnAt n i → (b ≡ 32 → ⊥) → Writes next (b ∷ []) now after p → Spelling n at lent after p (i + 1)
-  unfolding run inked
+  unfolding run notSpace
   spelling-more {after} {p} {b} h q k a =
       let cols = columnsOf n in
       let e : getD cols i 0 ≡ b = column-among n i h ∙ sym q in
       let t : take (i + 1) cols ≡ take i cols ++ (b ∷ []) = rw add-one (take-suc cols i 0 h ∙ ap (λ (x : ℕ). take i cols ++ (x ∷ [])) e) in
-      let d : run inked (drop i cols) ≡ b ∷ run inked (drop (i + 1) cols) =
-      rw add-one (ap (run inked) (drop-cons cols i 0 h ∙ ap (λ (x : ℕ). x ∷ drop (suc i) cols) e) ∙ ap (λ (p : Bool). cond (not p) (b ∷ run inked (drop (suc i) cols)) []) (ne-eqb b 32 k)) in
+      let d : run notSpace (drop i cols) ≡ b ∷ run notSpace (drop (i + 1) cols) =
+      rw add-one (ap (run notSpace) (drop-cons cols i 0 h ∙ ap (λ (x : ℕ). x ∷ drop (suc i) cols) e) ∙ ap (λ (p : Bool). cond (not p) (b ∷ run notSpace (drop (suc i) cols)) []) (ne-eqb b 32 k)) in
       record {
         within = omega arith;
         written = writes-same (sym t) (writes-then (w .written) a);
         left =
             w .left ∙ ap (λ (v : List ℕ). take i cols ++ v) d
-            ∙ sym (append-assoc (take i cols) (b ∷ []) (run inked (drop (i + 1) cols)))
-            ∙ ap (λ (v : List ℕ). v ++ run inked (drop (i + 1) cols)) (sym t);
+            ∙ sym (append-assoc (take i cols) (b ∷ []) (run notSpace (drop (i + 1) cols)))
+            ∙ ap (λ (v : List ℕ). v ++ run notSpace (drop (i + 1) cols)) (sym t);
       }
 
-  spelling-stop : length (run inked (drop i (columnsOf n))) ≡ 0 → Writes at (unpacked n) lent now next
+  spelling-stop : length (run notSpace (drop i (columnsOf n))) ≡ 0 → Writes at (unpacked n) lent now next
   spelling-stop e =
       let cols = columnsOf n in
       writes-same (sym (append-nil (take i cols)) ∙ ap (λ (v : List ℕ). take i cols ++ v) (sym (no-length _ e)) ∙ sym (w .left)) (w .written)
 
   -- a space, or the last column, ends the name
   pub spelling-space : {b : ℕ} → i < 8 → b ≡ columnAt n i → b ≡ 32 → Writes at (unpacked n) lent now next
-  unfolding inked
+  unfolding notSpace
   spelling-space h q e =
       let cols = columnsOf n in
-      spelling-stop (run-stop inked cols i h (ap not (eq-eqb (getD cols i 0) 32 (column-among n i h ∙ sym q ∙ e))))
+      spelling-stop (run-stop notSpace cols i h (ap not (eq-eqb (getD cols i 0) 32 (column-among n i h ∙ sym q ∙ e))))
 
   pub spelling-end : 8 ≤ i → Writes at (unpacked n) lent now next
-  spelling-end h = spelling-stop (run-end inked (columnsOf n) i h)
+  spelling-end h = spelling-stop (run-end notSpace (columnsOf n) i h)
 
 before-append : (ns : List ℕ) (n : ℕ) → before (map unpacked (ns ++ (n ∷ []))) ≡ before (map unpacked ns) ++ (32 ∷ unpacked n)
 unfolding before
@@ -94,12 +96,10 @@ spaced-none (n ∷ ns) at lent h = absurd (omega arith)
 
 -- words of at most 8 bytes
 abbrev pub Short : List (List ℕ) → Type 0
-Short [] = Unit {0}
-Short (w ∷ ws) = (length w ≤ 8) × Short ws
+Short ws = All (λ w. length w ≤ 8) ws
 
 pub short-unpacked : (ns : List ℕ) → Short (map unpacked ns)
-short-unpacked [] = tt
-short-unpacked (n ∷ ns) = (unpacked-length n, short-unpacked ns)
+short-unpacked ns = all-mapped unpacked (λ w. length w ≤ 8) ns (all-of (λ n. length (unpacked n) ≤ 8) unpacked-length ns)
 
 -- words of at most 8 bytes, with a space between
 pub spaced-length : (ws : List (List ℕ)) → Short ws → length (spaced ws) ≤ 9 * length ws - 1

@@ -3,6 +3,11 @@
 use mathlib.Core.List.{List, [], _∷_, _++_}
 use Prim.Native.Nat.{ℕ, _+_, _/_, _%_}
 use lib.ListN.{take, replicate}
+use Rattle.common.specs.Limits.{nameSize}
+
+-- the name where there is none: "else `-`"
+abbrev pub dash : List ℕ
+dash = 45 ∷ []
 
 -- k spaces
 abbrev pub spaces : ℕ → List ℕ
@@ -29,4 +34,4 @@ openingOf letter n = letter ∷ 32 ∷ (n / 10 + 48) ∷ (n % 10 + 48) ∷ 32 �
 
 -- columns 0 to 13: these, the name in columns 5 to 12, and a space
 abbrev pub frontOf : ℕ → ℕ → List ℕ → List ℕ
-frontOf letter n name = openingOf letter n ++ (padded 8 name ++ (32 ∷ []))
+frontOf letter n name = openingOf letter n ++ (padded nameSize name ++ (32 ∷ []))

@@ -1,6 +1,6 @@
 -- The table of past cases is right, as a whole, of Appendix A; and positions, and the numbers that the code computes, give the same answers.
 -- Assumes nothing.
-use mathlib.Core.Path.{_≡_, refl, sym, ap, _∙_}
+use mathlib.Core.Path.{_≡_, refl, sym, _∙_}
 use mathlib.Core.List.{List, [], _∷_, append-nil}
 use mathlib.Core.Option.{Option, none, some}
 use Prim.Native.Nat.{ℕ}
@@ -21,32 +21,16 @@ use Rattle.grammar.specs.Lines.{readEvent}
 use Rattle.grammar.specs.Text.{bytesOf}
 use Rattle.grammar.proofs.Spells.{Spells}
 use Rattle.grammar.proofs.SoundPasts.{past-sound}
-use Rattle.grammar.proofs.CompletePasts.{past-complete}
 use Rattle.grammar.proofs.Language.{event-taken}
-use Rattle.patterns.specs.All.{All}
-use Rattle.patterns.specs.Roles.{isBelow, Grown, grown-fresh, grown-more}
+use Rattle.common.specs.All.{All}
+use Rattle.patterns.specs.Roles.{isBelow}
 use Rattle.patterns.specs.Meets.{itemsMeet, termMeets, conditionMeets, meets}
 use Rattle.positions.specs.Matcher.{matches}
-use Rattle.positions.specs.Sums.{patSums, seqSums, altSums, starSums, sums, stepOf, endsOf}
+use Rattle.positions.specs.Summaries.{patSummary, seqSummary, altSummary, starSummary, summary, stepOf, endsOf}
 use Rattle.positions.proofs.Lists.{cons-head, cons-tail}
 use Rattle.positions.proofs.Matching.{matches-iff}
 use Rattle.follow.specs.Meaning.{pastMeaning}
-use Rattle.follow.specs.Cases.{Case, cases, further, Event, roles, met, SaysPast, SaysEvents, says-none, says-more, Claim, readPast, joined, readEvents, byMatcher, byPositions, byNumbers, answered, computed, printed, Agree}
-
--- a past's text has a single reading
-pub past-reading : (s : List ℕ) (p q : read.Past) → SaysPast s p → SaysPast s q → p ≡ q
-unfolding markIs begins
-past-reading s p q h g =
-    let n : length (spellPast q) ≡ length (spellPast p) = ap length (sym (g .spelled) ∙ h .spelled) in
-    let a = past-complete p [] (depth (length (spellPast p))) (h .valid) refl refl refl (omega arith) in
-    let b = past-complete q [] (depth (length (spellPast p))) (g .valid) refl refl refl (omega arith) in
-    let e : spellPast p ≡ spellPast q = sym (h .spelled) ∙ g .spelled in
-    cc
-
--- the roles are as calls leave them, so that their order is `Below` (`below-iff` of crate patterns)
-pub roles-grown : Grown same (bytesOf "top") roles
-unfolding same
-roles-grown = grown-more refl refl (grown-more refl refl (grown-more refl refl grown-fresh))
+use Rattle.follow.specs.Cases.{Case, cases, further, Event, met, SaysPast, SaysEvents, says-none, says-more, Claim, readPast, joined, readEvents, byMatcher, byPositions, byNumbers, answered, computed, printed, Agree}
 
 -- what the parser reads to the end is what the text says
 past-says : (s : List ℕ) (r : Parsed read.Past) (p : read.Past) → Spells ValidPast spellPast (tokens s) r → wholly r ≡ some p → SaysPast s p
@@ -93,7 +77,7 @@ claims (c ∷ cs) e = (claim c (cons-head e), claims cs (cons-tail e))
 
 -- The computed test over both tables: every case, answered each way.
 answers : Agree cases × Agree further
-unfolding classOf wordy spacey marky run kindOf same nameLike digitKind tokensFrom markIs wordIs wholly itemOf openOf itemsOf simpleOf conditionWith termWith conditionOf patternOf starsOf afterStars begins pastWith sequenceWith factorWith baseWith pastOf namesOf eventOf readEvent isBelow itemsMeet termMeets conditionMeets meets pastMeaning patSums seqSums altSums starSums sums stepOf endsOf
+unfolding classOf wordy spacey marky run kindOf same nameLike digitKind tokensFrom markIs wordIs wholly itemOf openOf itemsOf simpleOf conditionWith termWith conditionOf patternOf starsOf afterStars begins pastWith sequenceWith factorWith baseWith pastOf namesOf eventOf readEvent isBelow itemsMeet termMeets conditionMeets meets pastMeaning patSummary seqSummary altSummary starSummary summary stepOf endsOf
 answers = ((refl, refl, refl), (refl, refl, refl))
 
 -- "its correctness is proved of Appendix A's meaning as a whole table"

@@ -3,13 +3,14 @@
 use mathlib.Core.Path.{_≡_, refl, sym, ap₂, _∙_}
 use mathlib.Core.Bool.{Bool, _||_}
 use mathlib.Core.Logic.{inl, inr}
-use mathlib.Core.List.{List, [], _∷_}
+use mathlib.Core.List.{List}
 use Prim.Native.Nat.{ℕ, _+_}
-use Rattle.patterns.specs.All.{All}
+use Rattle.common.specs.All.{All}
+use Rattle.common.proofs.AllLaws.{all-map}
 use Rattle.positions.specs.Past.{Past, pat, empty, seq, alt, star}
 use Rattle.positions.specs.Numbers.{size, metAt, Each, each-none, each-more}
 use Rattle.positions.specs.Positions.{Held}
-use Rattle.positions.specs.Sums.{Right}
+use Rattle.positions.specs.Summaries.{Right}
 
 met-agree : {P : Type 0} (t u : P → Bool) → ((p : P) → t p ≡ u p) → (φ : Past P) (i k : ℕ) → metAt t φ i k ≡ metAt u φ i k
 met-agree t u h (pat p) i k = rw (h p) refl
@@ -28,12 +29,8 @@ module _ {P A : Type 0} where
   held-agree meets meets′ φ l h k (inl z) = inl z
   held-agree meets meets′ φ l h k (inr x) = inr (x .0, x .1, x .2, each-agree meets meets′ φ h (x .3))
 
-  back : (meets meets′ : A → P → Bool) (l : List A) → All (λ a. (p : P) → meets a p ≡ meets′ a p) l → All (λ a. (p : P) → meets′ a p ≡ meets a p) l
-  back meets meets′ [] h = tt
-  back meets meets′ (a ∷ l) h = (λ p. sym (h .0 p), back meets meets′ l (h .1))
-
   pub right-agree : (meets meets′ : A → P → Bool) (φ : Past P) (l : List A) (m : ℕ) → All (λ a. (p : P) → meets a p ≡ meets′ a p) l → Right meets φ l m → Right meets′ φ l m
   right-agree meets meets′ φ l m h r k = (
     λ e. held-agree meets meets′ φ l h k (r k .0 e),
-    λ x. r k .1 (held-agree meets′ meets φ l (back meets meets′ l h) k x),
+    λ x. r k .1 (held-agree meets′ meets φ l (all-map (λ a. (p : P) → meets a p ≡ meets′ a p) (λ a. (p : P) → meets′ a p ≡ meets a p) (λ a e p. sym (e p)) l h) k x),
   )

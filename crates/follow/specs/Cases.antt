@@ -3,7 +3,7 @@
 -- Assumes nothing.
 use mathlib.Core.Path.{_≡_}
 use mathlib.Core.Bool.{Bool, true, false}
-use mathlib.Core.List.{List, [], _∷_, map}
+use mathlib.Core.List.{List, [], _∷_, map, foldl}
 use mathlib.Core.Logic.{_↔_}
 use mathlib.Core.Option.{Option, none, some}
 use Prim.Native.Nat.{ℕ}
@@ -26,7 +26,7 @@ use Rattle.positions.specs.Matcher.{matches}
 use Rattle.positions.specs.Positions.{atStart}
 use Rattle.positions.specs.Walk.{steps, matchesNow}
 use Rattle.positions.specs.Sets.{shares}
-use Rattle.positions.specs.Sums.{sums, stepOf, endsOf}
+use Rattle.positions.specs.Summaries.{summary, stepOf, endsOf}
 use Rattle.follow.specs.Meaning.{pastMeaning}
 
 -- a case: a past and a list of events (document 01: acts) as printed, and the answer, true for yes
@@ -136,14 +136,9 @@ byMatcher φ l = matches met φ l
 abbrev pub byPositions : Way
 byPositions φ l = matchesNow φ (steps met φ atStart l)
 
--- the number after the events l more, as the code steps it
-abbrev pub numberAfter : Past Pattern → ℕ → List Event → ℕ
-numberAfter φ m [] = m
-numberAfter φ m (e ∷ l) = numberAfter φ (stepOf m (sums m (met e) φ 1)) l
-
--- by the numbers that the code computes: from 1, position 0 alone
+-- by the numbers that the code computes: from 1, position 0 alone, one step for each event
 abbrev pub byNumbers : Way
-byNumbers φ l = shares (numberAfter φ 1 l) (endsOf (sums 0 (λ p. false) φ 1))
+byNumbers φ l = shares (foldl (λ m e. stepOf m (summary m (met e) φ 1)) 1 l) (endsOf (summary 0 (λ p. false) φ 1))
 
 -- the answer to a past and events that were read
 abbrev pub answered : Way → Option read.Past → Option (List Event) → Option Bool

@@ -1,5 +1,5 @@
 -- What the walk over a past's code promises, by trees: where the code from `at` on spells a past and what follows does not go on with it, the walk
--- finds the sums of its meaning, and ends where its spelling ends. For any bytes it ends, and not before its start.
+-- finds the summary of its meaning, and ends where its spelling ends. For any bytes it ends, and not before its start.
 -- Assumes nothing.
 use mathlib.Core.Path.{_≡_}
 use mathlib.Core.Bool.{Bool, false}
@@ -12,8 +12,8 @@ use Rattle.code.specs.Trees.{codePast, codeSequence, codeFactor, codeBase}
 use Rattle.patterns.specs.Meets.{meets}
 use Rattle.patterns.specs.Judged.{orderIn}
 use Rattle.positions.specs.Past.{Past}
-use Rattle.positions.specs.Sums.{sums, starSums}
-use Rattle.positions.specs.declared.sums.Sums.{Sums}
+use Rattle.positions.specs.Summaries.{summary, starSummary}
+use Rattle.positions.specs.declared.summaries.Summary.{Summary}
 use Rattle.follow.specs.Meaning.{pastMeaning, sequenceMeaning, factorMeaning, baseMeaning}
 use Rattle.follow.specs.declared.walk.Walk.{Walk}
 
@@ -38,11 +38,11 @@ abbrev pub AfterPast : List ℕ → Type 0
 AfterPast rest = AfterSequence rest × (getD rest 0 0 ≡ 43 → ⊥)
 
 -- m: the positions held; ps: the table of parents; k: the number of the first pattern
-pub record WalkRead {T : Type 0} (code′ : T → List ℕ) (meaning : T → Past (Pattern ℕ)) (After : List ℕ → Type 0) (m : ℕ) (ps event code : List ℕ) (at k : ℕ) (r : Walk) : Type 0 where
+pub record WalkRead {T : Type 0} (code′ : T → List ℕ) (meaning : T → Past (Pattern ℕ)) (Stop : List ℕ → Type 0) (m : ℕ) (ps event code : List ℕ) (at k : ℕ) (r : Walk) : Type 0 where
   pub onwards : at ≤ r .end
   pub moves : at < length code → at < r .end
-  pub right : (t : T) (rest : List ℕ) → After rest → drop at code ≡ code′ t ++ rest
-      → (r .sums ≡ sums m (meets (orderIn ps) event) (meaning t) k) × (r .end ≡ at + length (code′ t))
+  pub right : (t : T) (rest : List ℕ) → Stop rest → drop at code ≡ code′ t ++ rest
+      → (r .summary ≡ summary m (meets (orderIn ps) event) (meaning t) k) × (r .end ≡ at + length (code′ t))
 
 -- the promise at each level
 abbrev pub BaseRead : ℕ → List ℕ → List ℕ → List ℕ → ℕ → ℕ → Walk → Type 0
@@ -58,12 +58,12 @@ abbrev pub PastRead : ℕ → List ℕ → List ℕ → List ℕ → ℕ → ℕ
 PastRead = WalkRead codePast pastMeaning AfterPast
 
 -- n stars
-abbrev pub again : ℕ → Sums → Sums
+abbrev pub again : ℕ → Summary → Summary
 again zero s = s
-again (suc n) s = again n (starSums s)
+again (suc n) s = again n (starSummary s)
 
 -- the stars after a base
 pub record StarsRead (code : List ℕ) (w r : Walk) : Type 0 where
   pub onwards : w .end ≤ r .end
   pub right : (n : ℕ) (rest : List ℕ) → AfterFactor rest → drop (w .end) code ≡ replicate n 42 ++ rest
-      → (r .sums ≡ again n (w .sums)) × (r .end ≡ w .end + n)
+      → (r .summary ≡ again n (w .summary)) × (r .end ≡ w .end + n)

@@ -1,5 +1,5 @@
 // One pass over a past's code for one event. The four levels call one another; what falls is the code left, and then the level.
-use positions::Sums;
+use positions::Summary;
 use positions::in_order;
 use positions::nothing;
 use positions::one;
@@ -11,7 +11,7 @@ ghost use Rattle.follow.specs.Walked.{starts, StarsRead, BaseRead, Facto
 // Where a spelling ends, and what the pass found of it.
 pub struct Walk {
     pub end: usize,
-    pub sums: Sums,
+    pub summary: Summary,
 }
 
 // Whether a byte begins a base.
@@ -39,12 +39,12 @@ fn stars(code: &[u8], w: Walk) -> Walk
         return w;
     }
     if code[e] == b'*' {
-        let s = repeated(w.sums);
+        let s = repeated(w.summary);
         return stars(
             code,
             Walk {
                 end: e + 1,
-                sums: s,
+                summary: s,
             },
         );
     }
@@ -56,20 +56,20 @@ fn base(code: &[u8], at: usize, k: usize, positions: u64, event: &[u8], parents:
     ensures { λ r. ⌜ BaseRead positions (now (parents .entry)) (now (event .entry)) (now (code .entry)) at k r ⌝ }
 {
     if at >= code.len() {
-        let s = nothing(k);
-        return Walk { end: at, sums: s };
+        let summary = nothing(k);
+        return Walk { end: at, summary };
     }
     if code[at] == b'(' {
         let next = at + 1;
         if next >= code.len() {
-            let s = nothing(k);
-            return Walk { end: next, sums: s };
+            let summary = nothing(k);
+            return Walk { end: next, summary };
         }
         if code[next] == b')' {
-            let s = nothing(k);
+            let summary = nothing(k);
             return Walk {
                 end: next + 1,
-                sums: s,
+                summary,
             };
         }
         let r = past(code, next, k, positions, event, parents);
@@ -77,17 +77,17 @@ fn base(code: &[u8], at: usize, k: usize, positions: u64, event: &[u8], parents:
         if e >= code.len() {
             return r;
         }
-        let s = r.sums;
+        let summary = r.summary;
         return Walk {
             end: e + 1,
-            sums: s,
+            summary,
         };
     }
     let j = patterns::pattern(code, at, event, parents);
-    let s = one(positions, j.ok, k);
+    let summary = one(positions, j.ok, k);
     Walk {
         end: j.end,
-        sums: s,
+        summary,
     }
 }
 
@@ -117,12 +117,12 @@ fn sequence(code: &[u8], at: usize, k: usize, positions: u64, event: &[u8], pare
     }
     let more = starts(code[e]);
     if more {
-        let n = f.sums.next;
+        let n = f.summary.next;
         let s = sequence(code, e, n, positions, event, parents);
-        let sums = in_order(f.sums, s.sums);
+        let summary = in_order(f.summary, s.summary);
         return Walk {
             end: s.end,
-            sums: sums,
+            summary: summary,
         };
     }
     f
@@ -138,12 +138,12 @@ pub fn past(code: &[u8], at: usize, k: usize, positions: u64, event: &[u8], pare
         return s;
     }
     if code[e] == b'+' {
-        let n = s.sums.next;
+        let n = s.summary.next;
         let p = past(code, e + 1, n, positions, event, parents);
-        let sums = one_of(s.sums, p.sums);
+        let summary = one_of(s.summary, p.summary);
         return Walk {
             end: p.end,
-            sums: sums,
+            summary: summary,
         };
     }
     s

@@ -15,7 +15,7 @@ use Rattle.frame.specs.Record.{refusal, lineByte, eventByte, newline, ki
 use Rattle.frame.specs.Framed.{Framed, Fault, kindless, endless, classless, Says}
 use Rattle.frame.specs.declared.records.Frame.{Frame}
 use Rattle.frame.specs.declared.records.Frame.the-variants.{Line, Event, WrongLength, Malformed}
-use Rattle.frame.proofs.TextLaws.{text-length, text-classed, classed-text, text-classless, record-parts}
+use Rattle.frame.proofs.TextLaws.{text-classed, classed-text, text-classless, record-parts}
 
 module _ (s : List ℕ) where
   pub frame-length : (length s ≡ 128 → ⊥) → frameOf s ≡ WrongLength
@@ -121,10 +121,6 @@ refusal-none s = (λ e. which (frameOf s) (says s) e, back)
     back : Framed lineByte s ⊎ Framed eventByte s → refusal (frameOf s) ≡ 0
     back (inl h) = ap refusal (framed-kind lineByte s h)
     back (inr h) = ap refusal (framed-kind eventByte s h)
-
--- the text of a record has 126 bytes
-pub framed-length : (b : ℕ) (s : List ℕ) → Framed b s → length (textOf s) ≡ 126
-framed-length b s h = text-length s (h .size)
 
 -- a record is its first byte, its text and the newline
 pub framed-parts : (b : ℕ) (s : List ℕ) → Framed b s → s ≡ b ∷ (textOf s ++ (newline ∷ []))

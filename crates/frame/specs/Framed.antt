@@ -4,6 +4,7 @@ use mathlib.Core.Path.{_≡_}
 use mathlib.Core.List.{List}
 use Prim.Native.Nat.{ℕ, _≤_}
 use lib.ListN.{length, getD}
+use Rattle.common.specs.Limits.{recordSize}
 use Rattle.lexer.specs.Class.{classOf}
 use Rattle.frame.specs.Record.{lineByte, eventByte, newline}
 use Rattle.frame.specs.declared.records.Frame.{Frame}
@@ -11,7 +12,7 @@ use Rattle.frame.specs.declared.records.Frame.the-variants.{Line, Event,
 
 -- "A record has 128 bytes and no header.", byte 0 is b, "Byte 127 is the newline", and no text byte (1 to 126) is of class 0
 pub record Framed (b : ℕ) (s : List ℕ) : Type 0 where
-  pub size : length s ≡ 128
+  pub size : length s ≡ recordSize
   pub first : getD s 0 0 ≡ b
   pub end : getD s 127 0 ≡ newline
   pub classed : (i : ℕ) → 1 ≤ i → i ≤ 126 → classOf (getD s i 0) ≡ 0 → ⊥
@@ -26,5 +27,5 @@ pub data Fault (s : List ℕ) : Type 0 where
 abbrev pub Says : List ℕ → Frame → Type 0
 Says s Line = Framed lineByte s
 Says s Event = Framed eventByte s
-Says s WrongLength = length s ≡ 128 → ⊥
-Says s Malformed = (length s ≡ 128) × Fault s
+Says s WrongLength = length s ≡ recordSize → ⊥
+Says s Malformed = (length s ≡ recordSize) × Fault s

@@ -5,6 +5,7 @@ use mathlib.Core.List.{List}
 use Prim.Native.Nat.{ℕ}
 use lib.Dec.{eqb}
 use lib.ListN.{length, getD}
+use Rattle.common.specs.Limits.{recordSize}
 use Rattle.lexer.specs.Class.{allClassed}
 use Rattle.frame.specs.Text.{textOf}
 use Rattle.frame.specs.declared.records.Frame.{Frame}
@@ -36,7 +37,7 @@ kindBy b = cond (eqb b lineByte) Line (cond (eqb b eventByte) Event Malformed)
 -- row 2: "record not 128 bytes"; row 3: "byte 0 not `L` or `E` .., byte 127 not newline, or a text byte of class 0"
 unfoldable pub frameOf : List ℕ → Frame
 frameOf s =
-    cond (eqb (length s) 128)
+    cond (eqb (length s) recordSize)
     (cond (eqb (getD s 127 0) newline)
     (cond (allClassed (textOf s)) (kindBy (getD s 0 0)) Malformed)
     Malformed)

@@ -3,6 +3,7 @@
 use mathlib.Core.List.{List, [], _∷_, _++_}
 use Prim.Native.Nat.{ℕ, zero, suc}
 use lib.ListN.{take, drop, replicate}
+use Rattle.common.specs.Limits.{recordSize}
 use Rattle.frame.specs.Record.{newline}
 
 -- a record: byte 0 and the text, spaces, the newline
@@ -12,4 +13,4 @@ recordOf s = take 127 (s ++ replicate 127 32) ++ (newline ∷ [])
 -- the first n records of a buffer; the last may be short
 abbrev pub recordsOf : ℕ → List ℕ → List (List ℕ)
 recordsOf zero s = []
-recordsOf (suc n) s = take 128 s ∷ recordsOf n (drop 128 s)
+recordsOf (suc n) s = take recordSize s ∷ recordsOf n (drop recordSize s)

@@ -1,5 +1,6 @@
 // The frame of a record. Document 01, "A record" and rows 2 and 3 of the refusals.
 use crate::texts::text;
+use common::sizes::RECORD_SIZE;
 use lexer::all_classed;
 ghost use mathlib.Core.Path.{_≡_};
 ghost use Rattle.frame.specs.Record.{kindBy, frameOf};
@@ -29,7 +30,7 @@ fn kind(b: u8) -> Frame
 pub fn framed(bytes: &[u8]) -> Frame
     ensures { λ r. ⌜ r ≡ frameOf (now (bytes .entry)) ⌝ }
 {
-    if bytes.len() != 128 {
+    if bytes.len() != RECORD_SIZE {
         return Frame::WrongLength;
     }
     if bytes[127] != b'\n' {

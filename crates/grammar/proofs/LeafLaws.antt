@@ -14,52 +14,52 @@ use Rattle.lexer.specs.declared.tokens.Lexeme.{Lexeme}
 use Rattle.lexer.specs.declared.tokens.Lexeme.the-variants.{End, Word, Mark, Other}
 use Rattle.grammar.specs.Parsed.{Parsed, markIs, wordIs, placeIs, isNone}
 use Rattle.grammar.specs.Parser.{begins}
-use Rattle.grammar.specs.Answers.{Answers, Shorter, Follows}
+use Rattle.grammar.specs.Readings.{ReadingIs, Shorter, ReadsAs}
 use Rattle.grammar.specs.declared.leaves.Reading.{Reading}
 use Rattle.grammar.specs.declared.leaves.Reading.the-variants.{Left, Bad}
 
 module _ (s : List ℕ) (b : ℕ) where
   -- where the tokens are known, so is the answer
-  answer : {A : Type 0} (parse : List Token → Parsed A) (ts : List Token) (r : Reading) → tokens s ≡ ts → Answers (parse ts) s r → Answers (parse (tokens s)) s r
+  answer : {A : Type 0} (parse : List Token → Parsed A) (ts : List Token) (r : Reading) → tokens s ≡ ts → ReadingIs (parse ts) s r → ReadingIs (parse (tokens s)) s r
   answer parse ts r e h = rw e h
 
-  pub mark-yes : (m n : ℕ) → Next s (Mark m n) → m ≡ b → Follows (markIs b) s (Left n)
-  unfolding Next Answers Shorter markIs
+  pub mark-yes : (m n : ℕ) → Next s (Mark m n) → m ≡ b → ReadsAs (markIs b) s (Left n)
+  unfolding Next ReadingIs Shorter markIs
   mark-yes m n h e = record {
     shorter = h .0;
     answers = answer (markIs b) (mark m ∷ tokens (last n s)) (Left n) (h .1) (rw (eq-eqb m b e) (le-of-lt (h .0), refl));
   }
 
-  pub mark-no : (m n : ℕ) → Next s (Mark m n) → (m ≡ b → ⊥) → Follows (markIs b) s Bad
-  unfolding Next Answers Shorter markIs
+  pub mark-no : (m n : ℕ) → Next s (Mark m n) → (m ≡ b → ⊥) → ReadsAs (markIs b) s Bad
+  unfolding Next ReadingIs Shorter markIs
   mark-no m n h e = record {
     shorter = tt;
     answers = answer (markIs b) (mark m ∷ tokens (last n s)) Bad (h .1) (rw (ne-eqb m b e) tt);
   }
 
-  pub mark-none : (l : Lexeme) → Next s l → ((m n : ℕ) → l ≡ Mark m n → ⊥) → Follows (markIs b) s Bad
-  unfolding Next Answers Shorter markIs
+  pub mark-none : (l : Lexeme) → Next s l → ((m n : ℕ) → l ≡ Mark m n → ⊥) → ReadsAs (markIs b) s Bad
+  unfolding Next ReadingIs Shorter markIs
   mark-none End h f = record { shorter = tt; answers = answer (markIs b) [] Bad h tt }
   mark-none (Word k n) h f = record { shorter = tt; answers = answer (markIs b) (word (h .1 .0) ∷ tokens (last n s)) Bad (h .1 .2) tt }
   mark-none (Mark m n) h f = absurd (f m n refl)
   mark-none (Other o n) h f = record { shorter = tt; answers = answer (markIs b) (other o ∷ tokens (last n s)) Bad (h .1) tt }
 
-  pub word-yes : (k n : ℕ) → Next s (Word k n) → k ≡ b → Follows (wordIs b) s (Left n)
-  unfolding Next Answers Shorter wordIs
+  pub word-yes : (k n : ℕ) → Next s (Word k n) → k ≡ b → ReadsAs (wordIs b) s (Left n)
+  unfolding Next ReadingIs Shorter wordIs
   word-yes k n h e = record {
     shorter = h .0;
     answers = answer (wordIs b) (word (h .1 .0) ∷ tokens (last n s)) (Left n) (h .1 .2) (rw (eq-eqb (kindOf (h .1 .0)) b (h .1 .1 ∙ e)) (le-of-lt (h .0), refl));
   }
 
-  pub word-no : (k n : ℕ) → Next s (Word k n) → (k ≡ b → ⊥) → Follows (wordIs b) s Bad
-  unfolding Next Answers Shorter wordIs
+  pub word-no : (k n : ℕ) → Next s (Word k n) → (k ≡ b → ⊥) → ReadsAs (wordIs b) s Bad
+  unfolding Next ReadingIs Shorter wordIs
   word-no k n h e = record {
     shorter = tt;
     answers = answer (wordIs b) (word (h .1 .0) ∷ tokens (last n s)) Bad (h .1 .2) (rw (ne-eqb (kindOf (h .1 .0)) b (λ q. e (sym (h .1 .1) ∙ q))) tt);
   }
 
-  pub word-none : (l : Lexeme) → Next s l → ((k n : ℕ) → l ≡ Word k n → ⊥) → Follows (wordIs b) s Bad
-  unfolding Next Answers Shorter wordIs
+  pub word-none : (l : Lexeme) → Next s l → ((k n : ℕ) → l ≡ Word k n → ⊥) → ReadsAs (wordIs b) s Bad
+  unfolding Next ReadingIs Shorter wordIs
   word-none End h f = record { shorter = tt; answers = answer (wordIs b) [] Bad h tt }
   word-none (Word k n) h f = absurd (f k n refl)
   word-none (Mark m n) h f = record { shorter = tt; answers = answer (wordIs b) (mark m ∷ tokens (last n s)) Bad (h .1) tt }
@@ -81,29 +81,29 @@ module _ (s : List ℕ) where
   begins-none (Mark m n) h f g = absurd (f m n refl)
   begins-none (Other o n) h f g = rw (h .1) refl
 
-  pub place-yes : (k n : ℕ) → Next s (Word k n) → 12 < k → k ≤ 16 → Follows placeIs s (Left n)
-  unfolding Next Answers Shorter placeIs
+  pub place-yes : (k n : ℕ) → Next s (Word k n) → 12 < k → k ≤ 16 → ReadsAs placeIs s (Left n)
+  unfolding Next ReadingIs Shorter placeIs
   place-yes k n h lo hi = record {
     shorter = h .0;
     answers = answer s 0 placeIs (word (h .1 .0) ∷ tokens (last n s)) (Left n) (h .1 .2) (rw (h .1 .1, le-leb 13 k lo, le-leb k 16 hi) (le-of-lt (h .0), refl));
   }
 
-  pub place-low : (k n : ℕ) → Next s (Word k n) → k ≤ 12 → Follows placeIs s Bad
-  unfolding Next Answers Shorter placeIs
+  pub place-low : (k n : ℕ) → Next s (Word k n) → k ≤ 12 → ReadsAs placeIs s Bad
+  unfolding Next ReadingIs Shorter placeIs
   place-low k n h e = record {
     shorter = tt;
     answers = answer s 0 placeIs (word (h .1 .0) ∷ tokens (last n s)) Bad (h .1 .2) (rw (h .1 .1, lt-leb 13 k (omega arith)) tt);
   }
 
-  pub place-high : (k n : ℕ) → Next s (Word k n) → 12 < k → 16 < k → Follows placeIs s Bad
-  unfolding Next Answers Shorter placeIs
+  pub place-high : (k n : ℕ) → Next s (Word k n) → 12 < k → 16 < k → ReadsAs placeIs s Bad
+  unfolding Next ReadingIs Shorter placeIs
   place-high k n h lo e = record {
     shorter = tt;
     answers = answer s 0 placeIs (word (h .1 .0) ∷ tokens (last n s)) Bad (h .1 .2) (rw (h .1 .1, le-leb 13 k lo, lt-leb k 16 e) tt);
   }
 
-  pub place-none : (l : Lexeme) → Next s l → ((k n : ℕ) → l ≡ Word k n → ⊥) → Follows placeIs s Bad
-  unfolding Next Answers Shorter placeIs
+  pub place-none : (l : Lexeme) → Next s l → ((k n : ℕ) → l ≡ Word k n → ⊥) → ReadsAs placeIs s Bad
+  unfolding Next ReadingIs Shorter placeIs
   place-none End h f = record { shorter = tt; answers = answer s 0 placeIs [] Bad h tt }
   place-none (Word k n) h f = absurd (f k n refl)
   place-none (Mark m n) h f = record { shorter = tt; answers = answer s 0 placeIs (mark m ∷ tokens (last n s)) Bad (h .1) tt }

@@ -11,7 +11,7 @@ use borrow.Author.Tests.{eqb-true, leb-true}
 use Rattle.lexer.specs.Words.{kindOf, reserved}
 use Rattle.lexer.specs.Tokens.{Token, word, mark, other}
 use Rattle.lexer.specs.Class.{within}
-use Rattle.lexer.proofs.Bools.{and-left, and-right}
+use Rattle.common.proofs.Bools.{and-left, and-right}
 use Rattle.lexer.proofs.KindLaws.{kind-word, kind-digit}
 use Rattle.grammar.specs.Parsed.{none, some, markIs, wordIs, placeIs}
 use Rattle.grammar.proofs.Spells.{Spells}

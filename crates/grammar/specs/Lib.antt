@@ -7,6 +7,6 @@ pub mod Names
 pub mod Size
 pub mod Parsed
 pub mod Parser
-pub mod Answers
+pub mod Readings
 pub mod Lines
 pub mod Text

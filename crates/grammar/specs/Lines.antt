@@ -45,11 +45,6 @@ readLine s = orElse (wholly (ruleOf (depth (length s)) (tokens s))) (wholly (rol
 unfoldable pub readEvent : List ℕ → Option Line
 readEvent s = wholly (eventOf (tokens s))
 
--- whether there is a reading
-abbrev pub isSome : {A : Type 0} → Option A → Bool
-isSome none = false
-isSome (some a) = true
-
 -- which kind of line it is
 abbrev pub kindOfLine : Option Line → Kind
 kindOfLine none = Neither

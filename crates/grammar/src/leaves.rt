@@ -5,7 +5,7 @@ use lexer::words::ZERO;
 ghost use mathlib.Core.Path.{_≡_};
 ghost use Rattle.lexer.specs.Tokens.{tokens};
 ghost use Rattle.grammar.specs.Parsed.{markIs, wordIs, placeIs, isNone};
-ghost use Rattle.grammar.specs.Answers.{Follows};
+ghost use Rattle.grammar.specs.Readings.{ReadsAs};
 
 // What a reader finds: how many bytes are left unread, or that the text is not of its form.
 pub enum Reading {
@@ -15,7 +15,7 @@ pub enum Reading {
 
 // The mark b.
 pub fn mark_at(s: &[u8], b: u8) -> Reading
-    ensures { λ r. ⌜ Follows (markIs b) (now (s .entry)) r ⌝ }
+    ensures { λ r. ⌜ ReadsAs (markIs b) (now (s .entry)) r ⌝ }
 {
     match next(s) {
         Lexeme::Mark(m, n) => {
@@ -31,7 +31,7 @@ pub fn mark_at(s: &[u8], b: u8) -> Reading
 
 // A word of the kind k.
 pub fn word_at(s: &[u8], k: u8) -> Reading
-    ensures { λ r. ⌜ Follows (wordIs k) (now (s .entry)) r ⌝ }
+    ensures { λ r. ⌜ ReadsAs (wordIs k) (now (s .entry)) r ⌝ }
 {
     match next(s) {
         Lexeme::Word(q, n) => {
@@ -47,7 +47,7 @@ pub fn word_at(s: &[u8], k: u8) -> Reading
 
 // A place in an event: one of the digits 1 to 4, whose kinds follow that of 0.
 pub fn place_at(s: &[u8]) -> Reading
-    ensures { λ r. ⌜ Follows placeIs (now (s .entry)) r ⌝ }
+    ensures { λ r. ⌜ ReadsAs placeIs (now (s .entry)) r ⌝ }
 {
     match next(s) {
         Lexeme::Word(q, n) => {

@@ -2,13 +2,11 @@
 //
 // Each reader takes the unread part of a record's text and answers how many bytes are left after its form. It hands the next reader a part of
 // the same text that starts in its middle. An event is read by the crate `code`, in one pass with its ids.
-pub mod leaves;
-pub mod lines;
-pub mod pasts;
-pub mod patterns;
-pub mod responses;
+mod leaves;
+mod lines;
+mod pasts;
+mod patterns;
+mod responses;
 
-pub use leaves::Reading;
 pub use lines::Kind;
-pub use lines::head;
 pub use lines::line_kind;

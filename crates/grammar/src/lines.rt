@@ -16,7 +16,7 @@ ghost use lib.ListN.{length};
 ghost use Rattle.lexer.specs.Tokens.{tokens};
 ghost use Rattle.grammar.specs.Parsed.{whole};
 ghost use Rattle.grammar.specs.Parser.{roleOf, headOf, tailOf, ruleOf, depth};
-ghost use Rattle.grammar.specs.Answers.{Follows, FollowsLevel};
+ghost use Rattle.grammar.specs.Readings.{ReadsAs, ReadsAsLevel};
 ghost use Rattle.grammar.specs.Lines.{readLine, kindOfLine};
 
 // What a line's text is.
@@ -28,7 +28,7 @@ pub enum Kind {
 
 // role, a name, under, a name.
 fn role(s: &[u8]) -> Reading
-    ensures { λ r. ⌜ Follows roleOf (now (s .entry)) r ⌝ }
+    ensures { λ r. ⌜ ReadsAs roleOf (now (s .entry)) r ⌝ }
 {
     let Reading::Left(a) = word_at(s, ROLE) else {
         return Reading::Bad;
@@ -46,7 +46,7 @@ fn role(s: &[u8]) -> Reading
 
 // rule, a name, :.
 pub fn head(s: &[u8]) -> Reading
-    ensures { λ r. ⌜ Follows headOf (now (s .entry)) r ⌝ }
+    ensures { λ r. ⌜ ReadsAs headOf (now (s .entry)) r ⌝ }
 {
     let Reading::Left(a) = word_at(s, RULE) else {
         return Reading::Bad;
@@ -60,7 +60,7 @@ pub fn head(s: &[u8]) -> Reading
 
 // ; a pattern ; a response.
 fn tail(s: &[u8]) -> Reading
-    ensures { λ r. ⌜ FollowsLevel 2 tailOf (now (s .entry)) r ⌝ }
+    ensures { λ r. ⌜ ReadsAsLevel 2 tailOf (now (s .entry)) r ⌝ }
 {
     let Reading::Left(a) = mark_at(s, b';') else {
         return Reading::Bad;
@@ -78,7 +78,7 @@ fn tail(s: &[u8]) -> Reading
 
 // A rule line.
 fn rule(s: &[u8]) -> Reading
-    ensures { λ r. ⌜ FollowsLevel 6 ruleOf (now (s .entry)) r ⌝ }
+    ensures { λ r. ⌜ ReadsAsLevel 6 ruleOf (now (s .entry)) r ⌝ }
 {
     let Reading::Left(a) = head(s) else {
         return Reading::Bad;

@@ -9,7 +9,7 @@ use lexer::words::ANY;
 ghost use mathlib.Core.Path.{_≡_};
 ghost use Rattle.lexer.specs.Tokens.{tokens};
 ghost use Rattle.grammar.specs.Parser.{begins, pastOf, sequenceOf, factorOf, baseOf};
-ghost use Rattle.grammar.specs.Answers.{FollowsLevel, StarsPassed};
+ghost use Rattle.grammar.specs.Readings.{ReadsAsLevel, StarsPassed};
 
 // How many bytes are left after the stars in front.
 fn stars(s: &[u8]) -> usize
@@ -42,7 +42,7 @@ fn factor_begins(s: &[u8]) -> bool
 
 // A past: sequences joined by +.
 pub fn past(s: &[u8]) -> Reading
-    ensures { λ r. ⌜ FollowsLevel 6 pastOf (now (s .entry)) r ⌝ }
+    ensures { λ r. ⌜ ReadsAsLevel 6 pastOf (now (s .entry)) r ⌝ }
 {
     match sequence(s) {
         Reading::Left(n) => {
@@ -58,7 +58,7 @@ pub fn past(s: &[u8]) -> Reading
 
 // A sequence: factors side by side.
 fn sequence(s: &[u8]) -> Reading
-    ensures { λ r. ⌜ FollowsLevel 5 sequenceOf (now (s .entry)) r ⌝ }
+    ensures { λ r. ⌜ ReadsAsLevel 5 sequenceOf (now (s .entry)) r ⌝ }
 {
     match factor(s) {
         Reading::Left(n) => {
@@ -75,7 +75,7 @@ fn sequence(s: &[u8]) -> Reading
 
 // A factor: a base and its stars.
 fn factor(s: &[u8]) -> Reading
-    ensures { λ r. ⌜ FollowsLevel 4 factorOf (now (s .entry)) r ⌝ }
+    ensures { λ r. ⌜ ReadsAsLevel 4 factorOf (now (s .entry)) r ⌝ }
 {
     match base(s) {
         Reading::Left(n) => Reading::Left(stars(rest(s, n))),
@@ -85,7 +85,7 @@ fn factor(s: &[u8]) -> Reading
 
 // A base: a pattern, (), or a past in round brackets.
 fn base(s: &[u8]) -> Reading
-    ensures { λ r. ⌜ FollowsLevel 3 baseOf (now (s .entry)) r ⌝ }
+    ensures { λ r. ⌜ ReadsAsLevel 3 baseOf (now (s .entry)) r ⌝ }
 {
     match mark_at(s, b'(') {
         Reading::Left(n) => {

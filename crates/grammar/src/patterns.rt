@@ -8,11 +8,11 @@ use lexer::words::NAME;
 use lexer::words::NOT;
 use lexer::words::OR;
 ghost use Rattle.grammar.specs.Parser.{itemOf, openOf, itemsOf, simpleOf, conditionOf, termOf, patternOf};
-ghost use Rattle.grammar.specs.Answers.{Follows, FollowsLevel};
+ghost use Rattle.grammar.specs.Readings.{ReadsAs, ReadsAsLevel};
 
 // A name, or + and a name.
 fn item(s: &[u8]) -> Reading
-    ensures { λ r. ⌜ Follows itemOf (now (s .entry)) r ⌝ }
+    ensures { λ r. ⌜ ReadsAs itemOf (now (s .entry)) r ⌝ }
 {
     match mark_at(s, b'+') {
         Reading::Left(n) => word_at(rest(s, n), NAME),
@@ -22,7 +22,7 @@ fn item(s: &[u8]) -> Reading
 
 // * and >.
 fn open_end(s: &[u8]) -> Reading
-    ensures { λ r. ⌜ Follows openOf (now (s .entry)) r ⌝ }
+    ensures { λ r. ⌜ ReadsAs openOf (now (s .entry)) r ⌝ }
 {
     match mark_at(s, b'*') {
         Reading::Left(n) => mark_at(rest(s, n), b'>'),
@@ -32,7 +32,7 @@ fn open_end(s: &[u8]) -> Reading
 
 // At most k items, an optional *, and >.
 fn items(s: &[u8], k: usize) -> Reading
-    ensures { λ r. ⌜ Follows (itemsOf k) (now (s .entry)) r ⌝ }
+    ensures { λ r. ⌜ ReadsAs (itemsOf k) (now (s .entry)) r ⌝ }
 {
     match mark_at(s, b'>') {
         Reading::Left(n) => Reading::Left(n),
@@ -50,7 +50,7 @@ fn items(s: &[u8], k: usize) -> Reading
 
 // A simple pattern.
 fn simple(s: &[u8]) -> Reading
-    ensures { λ r. ⌜ Follows simpleOf (now (s .entry)) r ⌝ }
+    ensures { λ r. ⌜ ReadsAs simpleOf (now (s .entry)) r ⌝ }
 {
     match mark_at(s, b'<') {
         Reading::Left(n) => items(rest(s, n), 4),
@@ -60,7 +60,7 @@ fn simple(s: &[u8]) -> Reading
 
 // A condition: terms joined by or.
 fn condition(s: &[u8]) -> Reading
-    ensures { λ r. ⌜ FollowsLevel 1 conditionOf (now (s .entry)) r ⌝ }
+    ensures { λ r. ⌜ ReadsAsLevel 1 conditionOf (now (s .entry)) r ⌝ }
 {
     match term(s) {
         Reading::Left(n) => {
@@ -76,7 +76,7 @@ fn condition(s: &[u8]) -> Reading
 
 // A term of a condition.
 fn term(s: &[u8]) -> Reading
-    ensures { λ r. ⌜ FollowsLevel 0 termOf (now (s .entry)) r ⌝ }
+    ensures { λ r. ⌜ ReadsAsLevel 0 termOf (now (s .entry)) r ⌝ }
 {
     match word_at(s, NOT) {
         Reading::Left(n) => term(rest(s, n)),
@@ -95,7 +95,7 @@ fn term(s: &[u8]) -> Reading
 
 // A pattern.
 pub fn pattern(s: &[u8]) -> Reading
-    ensures { λ r. ⌜ FollowsLevel 2 patternOf (now (s .entry)) r ⌝ }
+    ensures { λ r. ⌜ ReadsAsLevel 2 patternOf (now (s .entry)) r ⌝ }
 {
     match mark_at(s, b'[') {
         Reading::Left(n) => {

@@ -10,11 +10,11 @@ use lexer::words::NAME;
 use lexer::words::PASS;
 use lexer::words::SEND;
 ghost use Rattle.grammar.specs.Parser.{slotOf, slotsOf, templateOf, responseOf};
-ghost use Rattle.grammar.specs.Answers.{Follows};
+ghost use Rattle.grammar.specs.Readings.{ReadsAs};
 
 // A name, or # and a place.
 fn slot(s: &[u8]) -> Reading
-    ensures { λ r. ⌜ Follows slotOf (now (s .entry)) r ⌝ }
+    ensures { λ r. ⌜ ReadsAs slotOf (now (s .entry)) r ⌝ }
 {
     match mark_at(s, b'#') {
         Reading::Left(n) => place_at(rest(s, n)),
@@ -24,7 +24,7 @@ fn slot(s: &[u8]) -> Reading
 
 // At most k slots, and >.
 fn slots(s: &[u8], k: usize) -> Reading
-    ensures { λ r. ⌜ Follows (slotsOf k) (now (s .entry)) r ⌝ }
+    ensures { λ r. ⌜ ReadsAs (slotsOf k) (now (s .entry)) r ⌝ }
 {
     match mark_at(s, b'>') {
         Reading::Left(n) => Reading::Left(n),
@@ -42,7 +42,7 @@ fn slots(s: &[u8], k: usize) -> Reading
 
 // A template.
 fn template(s: &[u8]) -> Reading
-    ensures { λ r. ⌜ Follows templateOf (now (s .entry)) r ⌝ }
+    ensures { λ r. ⌜ ReadsAs templateOf (now (s .entry)) r ⌝ }
 {
     match mark_at(s, b'<') {
         Reading::Left(n) => slots(rest(s, n), 4),
@@ -52,7 +52,7 @@ fn template(s: &[u8]) -> Reading
 
 // A response.
 pub fn response(s: &[u8]) -> Reading
-    ensures { λ r. ⌜ Follows responseOf (now (s .entry)) r ⌝ }
+    ensures { λ r. ⌜ ReadsAs responseOf (now (s .entry)) r ⌝ }
 {
     if let Reading::Left(n) = word_at(s, PASS) {
         return Reading::Left(n);

@@ -8,11 +8,11 @@ use Rattle.follow.specs.declared.state.State.{State}
 use Rattle.follow.specs.declared.declare.Declared.{Declared}
 use Rattle.intake.specs.Names.{Name, Rule}
 use Rattle.intake.specs.Asked.{Asked, refusedBy, asksRole, asksRule}
-use Rattle.intake.specs.Machine.{Tracked, withRole, withRule}
+use Rattle.intake.specs.Machine.{PositionMachine, withRole, withRule}
 use Rattle.intake.specs.Represents.{NameWord, Represents}
 use Rattle.intake.specs.Declaring.{DeclaredAs}
 
-module _ (f : State) (t : Tracked) (a : Asked) (c : Declared) where
+module _ (f : State) (t : PositionMachine) (a : Asked) (c : Declared) where
   abbrev Told : Type 0
   Told = DeclaredAs f t a c
 

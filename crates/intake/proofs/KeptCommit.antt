@@ -5,35 +5,35 @@ use mathlib.Core.List.{List, [], _∷_, map}
 use Prim.Native.Nat.{ℕ, zero, suc, _≤_, _<_, _^_}
 use native.Mathlib.Omega.{arith}
 use lib.ListN.{getD}
+use Rattle.common.specs.Limits.{maxPatterns, maxRules}
 use Rattle.lexer.specs.Words.{same}
 use Rattle.grammar.specs.Trees as trees
 use Rattle.grammar.specs.Rename.{mapPattern}
 use Rattle.grammar.specs.Names.{ruleNames, pastNames, patternNames}
 use Rattle.grammar.specs.AsRead.{Past}
 use Rattle.grammar.specs.Size.{sizePast}
-use Rattle.code.specs.Count.{limit}
-use Rattle.patterns.specs.All.{All}
+use Rattle.common.specs.All.{All}
+use Rattle.common.proofs.AllLaws.{all-left}
 use Rattle.patterns.specs.Meets.{meets, orderOf}
 use Rattle.patterns.specs.Judged.{orderIn}
-use Rattle.patterns.proofs.MeetsLaws.{all-left}
 use Rattle.patterns.proofs.TableNames.{meets-same}
-use Rattle.positions.specs.Sums.{sums, stepOf}
-use Rattle.positions.proofs.SumLaws.{step-number-below}
+use Rattle.positions.specs.Summaries.{summary, stepOf}
+use Rattle.positions.proofs.SummaryLaws.{step-number-below}
 use Rattle.follow.specs.Meaning.{pastMeaning}
 use Rattle.follow.specs.Rows.{codeOf}
 use Rattle.follow.specs.Rules.{RuleStepped}
-use Rattle.follow.specs.State.{maxRules, rulesHeld, ruleAt, Committed}
+use Rattle.follow.specs.State.{rulesHeld, ruleAt, Committed}
 use Rattle.follow.specs.declared.state.Sheet.{Sheet}
 use Rattle.follow.specs.declared.state.State.{State}
-use Rattle.follow.proofs.MeaningMap.{sums-map}
-use Rattle.follow.proofs.Limits.{capped-small}
+use Rattle.follow.proofs.MeaningMap.{summary-map}
+use Rattle.follow.proofs.CappedLaws.{capped-small}
 use Rattle.follow.proofs.SizeLaws.{size-meaning}
 use Rattle.intake.specs.Names.{Name, Event, Roles as NamedRoles, Rule}
-use Rattle.intake.specs.Machine.{Tracked, Followed, stepNumber, moveOn, withEvent}
-use Rattle.intake.specs.Represents.{nameAt, RuleIs, FollowedIs, Rules, rules-none, rules-more, Represents}
+use Rattle.intake.specs.Machine.{PositionMachine, PositionRule, stepNumber, moveOn, withEvent}
+use Rattle.intake.specs.Represents.{nameAt, RuleIs, PositionRuleIs, Rules, rules-none, rules-more, Represents}
 use Rattle.intake.proofs.RuleSizes.{rule-small}
 
-module _ (f : State) (t : Tracked) (rep : Represents f t) (e : List ℕ) (es : All (λ i. i < f .sheet .«role_count») e) where
+module _ (f : State) (t : PositionMachine) (rep : Represents f t) (e : List ℕ) (es : All (λ i. i < f .sheet .«role_count») e) where
   -- what the code judges of ids is what the machine judges of names
   judged : (p : trees.Pattern ℕ) → All (λ i. i < f .sheet .«role_count») (patternNames p)
       → meets (orderOf same (t .roles)) (map (nameAt (f .sheet)) e) (mapPattern (nameAt (f .sheet)) p) ≡ meets (orderIn (f .sheet .parents)) e p
@@ -48,28 +48,28 @@ module _ (f : State) (t : Tracked) (rep : Represents f t) (e : List ℕ) (es : A
       let names : All (λ j. j < f .sheet .«role_count») (pastNames (x .tree .past)) = all-left (λ j. j < f .sheet .«role_count») (pastNames (x .tree .past)) _ (x .ids) in
       h .right (x .tree) (x .keeps .spelled)
       ∙ ap (stepOf m)
-      (sym (sums-map (nameAt (f .sheet)) (λ j. j < f .sheet .«role_count») m (meets (orderIn (f .sheet .parents)) e) (meets (orderOf same (t .roles)) (map (nameAt (f .sheet)) e)) judged (x .tree .past) names 1)
-      ∙ ap (λ (p : trees.Past Name). sums m (meets (orderOf same (t .roles)) (map (nameAt (f .sheet)) e)) (pastMeaning p) 1) (sym (x .past)))
+      (sym (summary-map (nameAt (f .sheet)) (λ j. j < f .sheet .«role_count») m (meets (orderIn (f .sheet .parents)) e) (meets (orderOf same (t .roles)) (map (nameAt (f .sheet)) e)) judged (x .tree .past) names 1)
+      ∙ ap (λ (p : trees.Past Name). summary m (meets (orderOf same (t .roles)) (map (nameAt (f .sheet)) e)) (pastMeaning p) 1) (sym (x .past)))
 
-module _ (f g : State) (t : Tracked) (rep : Represents f t) (e : List ℕ) (es : All (λ i. i < f .sheet .«role_count») e) (c : Committed f e g) where
+module _ (f g : State) (t : PositionMachine) (rep : Represents f t) (e : List ℕ) (es : All (λ i. i < f .sheet .«role_count») e) (c : Committed f e g) where
   -- the event by names
   abbrev named : Event
   named = map (nameAt (f .sheet)) e
 
-  stepped : (i : ℕ) (x : Followed) → i < f .sheet .«rule_count» → FollowedIs f i x → getD (g .positions) i 0 ≡ stepNumber (t .roles) (x .rule .past) (x .positions) named
+  stepped : (i : ℕ) (x : PositionRule) → i < f .sheet .«rule_count» → PositionRuleIs f i x → getD (g .positions) i 0 ≡ stepNumber (t .roles) (x .rule .past) (x .positions) named
   stepped i x k y =
       let held : i < rulesHeld (f .sheet) = rw (capped-small maxRules (f .sheet .«rule_count») (rep .few)) k in
       step-same f t rep e es i (x .rule) (y .rule) (getD (f .positions) i 0) (getD (g .positions) i 0) (c .positions i held)
       ∙ ap (λ (m : ℕ). stepNumber (t .roles) (x .rule .past) m named) (y .positions)
 
   -- the positions after an event are among 0 .. n
-  step-within : (p : Past) (m : ℕ) → sizePast p ≤ limit → stepNumber (t .roles) p m named < 2 ^ suc (sizePast p)
+  step-within : (p : Past) (m : ℕ) → sizePast p ≤ maxPatterns → stepNumber (t .roles) p m named < 2 ^ suc (sizePast p)
   unfolding stepNumber
   step-within p m small =
       let q = size-meaning p in
       rw q at (step-number-below (pastMeaning p) (omega (arith, q, small)) m (meets (orderOf same (t .roles)) named))
 
-  rule-kept : (i : ℕ) (x : Followed) → i < f .sheet .«rule_count» → FollowedIs f i x → FollowedIs g i (moveOn (t .roles) named x)
+  rule-kept : (i : ℕ) (x : PositionRule) → i < f .sheet .«rule_count» → PositionRuleIs f i x → PositionRuleIs g i (moveOn (t .roles) named x)
   rule-kept i x k y =
       record {
         rule = rw (c .sheet) (y .rule);
@@ -77,7 +77,7 @@ module _ (f g : State) (t : Tracked) (rep : Represents f t) (e : List ℕ) (es :
         within = step-within (x .rule .past) (x .positions) (rule-small (f .sheet) i (x .rule) (y .rule));
       }
 
-  rules-kept : (k : ℕ) (l : List Followed) → k ≤ f .sheet .«rule_count» → Rules f k l → Rules g k (map (moveOn (t .roles) named) l)
+  rules-kept : (k : ℕ) (l : List PositionRule) → k ≤ f .sheet .«rule_count» → Rules f k l → Rules g k (map (moveOn (t .roles) named) l)
   rules-kept zero [] h rules-none = rules-none
   rules-kept (suc k) (x ∷ l) h (rules-more y ys) = rules-more (rule-kept k x h y) (rules-kept k l (omega arith) ys)
 

@@ -11,28 +11,28 @@ use lib.Dec.{eqb}
 use lib.ListN.{length, getD, length-set}
 use lib.Seq.{getD-set-same, getD-set-other}
 use borrow.Author.Tests.{eq-eqb, ne-eqb}
+use Rattle.common.specs.Limits.{maxRoles}
 use Rattle.lexer.specs.Words.{same}
-use Rattle.lexer.proofs.Bools.{true-not-false}
+use Rattle.common.proofs.Bools.{true-not-false, same-test}
 use Rattle.lexer.proofs.KindLaws.{same-true}
 use Rattle.lexer.proofs.SameLaws.{same-refl}
 use Rattle.grammar.specs.Names.{ruleNames, pastNames, patternNames}
 use Rattle.names.specs.Name.{packed}
 use Rattle.names.specs.Unpacked.{unpacked}
 use Rattle.names.proofs.UnpackedLaws.{unpacked-name}
-use Rattle.patterns.specs.All.{All}
+use Rattle.common.specs.All.{All}
+use Rattle.common.proofs.AllLaws.{all-left, all-right, all-map}
 use Rattle.patterns.specs.Roles.{Roles, isHeld}
 use Rattle.patterns.specs.Table.{Ordered, rolesOf}
-use Rattle.patterns.proofs.MeetsLaws.{all-left, all-right}
 use Rattle.patterns.proofs.RenameAgree.{past-agree, pattern-agree, response-agree}
 use Rattle.patterns.proofs.TableNames.{split}
-use Rattle.follow.specs.State.{addRole, joinRole, maxRoles}
+use Rattle.follow.specs.State.{addRole, joinRole}
 use Rattle.follow.specs.declared.state.Sheet.{Sheet}
 use Rattle.follow.specs.declared.state.State.{State}
 use Rattle.intake.specs.Names.{Name, Rule}
-use Rattle.intake.specs.Machine.{Tracked, Followed, withRole}
+use Rattle.intake.specs.Machine.{PositionMachine, PositionRule, withRole}
 use Rattle.intake.specs.Represents.{nameAt, rolesIn, NameWord, Sized, Naming, RuleIs, Rules, rules-none, rules-more, Represents}
-use Rattle.intake.proofs.Lists.{all-more}
-use Rattle.intake.proofs.Naming.{both-ways, held-up}
+use Rattle.intake.proofs.Naming.{held-up}
 
 -- tables that agree on the first n
 roles-agree : (nm mm : ℕ → Name) (ps qs : List ℕ) (n : ℕ) → ((i : ℕ) → i < n → nm i ≡ mm i) → ((i : ℕ) → i < n → getD ps i 0 ≡ getD qs i 0) → ((i : ℕ) → i < n → nm (getD ps i 0) ≡ mm (getD ps i 0))
@@ -87,7 +87,7 @@ module _ (s : Sheet) (n : Naming s) (long : length (s .names) ≡ 64) (long-pare
       (split i (s .«role_count») k)
 
   swap : (u v : Name) → same u v ≡ same v u
-  swap u v = both-ways (same u v) (same v u) (turn u v) (turn v u)
+  swap u v = same-test (same u v) (same v u) (turn u v, turn v u)
     where
       turn : (u v : Name) → same u v ≡ true → same v u ≡ true
       turn u v e = subst (λ (x : Name). same x u ≡ true) (same-true u v e) (same-refl u)
@@ -146,12 +146,12 @@ module _ (s : Sheet) (n : Naming s) (long : length (s .names) ≡ 64) (long-pare
   unfolding ruleNames
   rule-kept i r x =
       let ag : All (λ k. nameAt s k ≡ nameAt after k) (ruleNames (x .tree .past) (x .tree .trigger) (x .tree .response)) =
-      all-more (λ k. k < s .«role_count») (λ k. nameAt s k ≡ nameAt after k) (λ k l. sym (old k l)) (ruleNames (x .tree .past) (x .tree .trigger) (x .tree .response)) (x .ids) in
+      all-map (λ k. k < s .«role_count») (λ k. nameAt s k ≡ nameAt after k) (λ k l. sym (old k l)) (ruleNames (x .tree .past) (x .tree .trigger) (x .tree .response)) (x .ids) in
       let late = all-right (λ k. nameAt s k ≡ nameAt after k) (pastNames (x .tree .past)) _ ag in
       record {
         tree = x .tree;
         keeps = x .keeps;
-        ids = all-more (λ k. k < s .«role_count») (λ k. k < s .«role_count» + 1) (λ k l. omega arith) (ruleNames (x .tree .past) (x .tree .trigger) (x .tree .response)) (x .ids);
+        ids = all-map (λ k. k < s .«role_count») (λ k. k < s .«role_count» + 1) (λ k l. omega arith) (ruleNames (x .tree .past) (x .tree .trigger) (x .tree .response)) (x .ids);
         short = x .short;
         small = x .small;
         named = x .named;
@@ -162,12 +162,12 @@ module _ (s : Sheet) (n : Naming s) (long : length (s .names) ≡ 64) (long-pare
         said = x .said;
       }
 
-module _ (f : State) (z : Sized f) (t : Tracked) (rep : Represents f t) (w : Name) (a : NameWord w) (p : ℕ) (h : p < f .sheet .«role_count»)
+module _ (f : State) (z : Sized f) (t : PositionMachine) (rep : Represents f t) (w : Name) (a : NameWord w) (p : ℕ) (h : p < f .sheet .«role_count»)
     (room : f .sheet .«role_count» < maxRoles) (free : isHeld same (t .roles) w ≡ false) where
   unnamed : isHeld same (rolesIn (f .sheet)) w ≡ false
   unnamed = ap (λ (rs : Roles Name). isHeld same rs w) (sym (rep .roles)) ∙ free
 
-  rules-kept : (k : ℕ) (l : List Followed) → Rules f k l → Rules (joinRole f (packed w) p) k l
+  rules-kept : (k : ℕ) (l : List PositionRule) → Rules f k l → Rules (joinRole f (packed w) p) k l
   rules-kept zero [] rules-none = rules-none
   rules-kept (suc k) (x ∷ l) (rules-more y ys) =
       rules-more

@@ -7,24 +7,24 @@ use native.Mathlib.Numerals.{add-one}
 use native.Mathlib.Omega.{arith}
 use lib.ListN.{length, set, getD}
 use lib.Seq.{getD-set-same, getD-set-other}
+use Rattle.common.specs.Limits.{maxPatterns, maxRules}
 use Rattle.grammar.specs.Rename.{mapPast, mapPattern, mapResponse}
 use Rattle.grammar.specs.Names.{ruleNames}
 use Rattle.grammar.specs.Size.{sizePast}
 use Rattle.names.specs.Name.{packed}
-use Rattle.code.specs.Count.{limit}
-use Rattle.patterns.specs.All.{All}
+use Rattle.common.specs.All.{All}
 use Rattle.follow.specs.Rules.{Tree, Short, Keeps}
-use Rattle.follow.specs.State.{addRule, joinRule, maxRules}
+use Rattle.follow.specs.State.{addRule, joinRule}
 use Rattle.follow.specs.declared.rules.Rule as kept
 use Rattle.follow.specs.declared.state.Sheet.{Sheet}
 use Rattle.follow.specs.declared.state.State.{State}
 use Rattle.follow.proofs.StateLaws.{rule-new, rule-old}
 use Rattle.intake.specs.Names.{Rule}
-use Rattle.intake.specs.Machine.{Tracked, Followed, startNumber, withRule}
+use Rattle.intake.specs.Machine.{PositionMachine, PositionRule, startNumber, withRule}
 use Rattle.intake.specs.Represents.{nameAt, NameWord, Sized, Naming, Said, RuleIs, Rules, rules-none, rules-more, Represents}
 
-module _ (f : State) (z : Sized f) (t : Tracked) (rep : Represents f t) (rule : kept.Rule) (tree : Tree) (keeps : Keeps rule tree)
-    (ids : All (λ k. k < f .sheet .«role_count») (ruleNames (tree .past) (tree .trigger) (tree .response))) (short : Short (tree .response)) (small : sizePast (tree .past) ≤ limit)
+module _ (f : State) (z : Sized f) (t : PositionMachine) (rep : Represents f t) (rule : kept.Rule) (tree : Tree) (keeps : Keeps rule tree)
+    (ids : All (λ k. k < f .sheet .«role_count») (ruleNames (tree .past) (tree .trigger) (tree .response))) (short : Short (tree .response)) (small : sizePast (tree .past) ≤ maxPatterns)
     (r : Rule) (name : ℕ) (named : name ≡ packed (r .name)) (word : NameWord (r .name)) (past : r .past ≡ mapPast (nameAt (f .sheet)) (tree .past))
     (trigger : r .trigger ≡ mapPattern (nameAt (f .sheet)) (tree .trigger)) (response : r .response ≡ mapResponse (nameAt (f .sheet)) (tree .response)) (said : Said r)
     (whole : length (rule .row) ≡ 128) (room : f .sheet .«rule_count» < maxRules) where
@@ -83,7 +83,7 @@ module _ (f : State) (z : Sized f) (t : Tracked) (rep : Represents f t) (rule : 
         said = x .said;
       }
 
-  rules-kept : (k : ℕ) (l : List Followed) → k ≤ s .«rule_count» → Rules f k l → Rules (joinRule f name rule) k l
+  rules-kept : (k : ℕ) (l : List PositionRule) → k ≤ s .«rule_count» → Rules f k l → Rules (joinRule f name rule) k l
   rules-kept zero [] h rules-none = rules-none
   rules-kept (suc k) (q ∷ l) h (rules-more x xs) =
       rules-more (record { rule = rule-kept k (q .rule) h (x .rule); positions = old-positions k h ∙ x .positions; within = x .within }) (rules-kept k l (omega arith) xs)

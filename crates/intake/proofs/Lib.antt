@@ -1,7 +1,6 @@
 pub mod Held
 pub mod Numbers
 pub mod Rows
-pub mod Lists
 pub mod Naming
 pub mod SaidNames
 pub mod TakenNames

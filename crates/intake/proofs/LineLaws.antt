@@ -6,7 +6,7 @@ use mathlib.Core.List.{List}
 use mathlib.Core.Option.{Option, none, some}
 use Prim.Native.Nat.{ℕ, _≤_}
 use lib.ListN.{length}
-use Rattle.lexer.proofs.Bools.{true-not-false}
+use Rattle.common.proofs.Bools.{true-not-false}
 use Rattle.grammar.specs.AsRead.{Line, role, rule, event}
 use Rattle.grammar.specs.Lines.{readLine, kindOfLine}
 use Rattle.grammar.specs.declared.lines.Kind.{Kind}
@@ -16,9 +16,9 @@ use Rattle.follow.specs.State.{refuse}
 use Rattle.follow.specs.declared.state.State.{State}
 use Rattle.follow.specs.declared.declare.Declared.{Declared}
 use Rattle.intake.specs.Asked.{askedLine}
-use Rattle.intake.specs.Machine.{Tracked}
+use Rattle.intake.specs.Machine.{PositionMachine}
 use Rattle.intake.specs.Represents.{Represents}
-use Rattle.intake.specs.Declaring.{DeclaredAs, lineAsked, RoleDeclared, RuleDeclared, LineDeclared}
+use Rattle.intake.specs.Declaring.{DeclaredAs, lineAsked, RoleLineDeclared, RuleLineDeclared, LineDeclared}
 
 abbrev isRole : Kind → Type 0
 isRole Role = Unit {0}
@@ -37,28 +37,28 @@ isNeither Neither = Unit {0}
 
 module _ (f : State) (s : List ℕ) (r : Declared) where
   abbrev Right : Option Line → Type 0
-  Right o = (t : Tracked) → Represents f t → length s ≤ 126 → DeclaredAs f t (lineAsked t o) r
+  Right o = (t : PositionMachine) → Represents f t → length s ≤ 126 → DeclaredAs f t (lineAsked t o) r
 
-  by-role : RoleDeclared f s r → (o : Option Line) → readLine s ≡ o → isRole (kindOfLine o) → Right o
+  by-role : RoleLineDeclared f s r → (o : Option Line) → readLine s ≡ o → isRole (kindOfLine o) → Right o
   by-role h none e k = absurd k
   by-role h (some (role w p)) e k = λ t rep m. h .right t rep m w p (line-taken s (role w p) .0 e .0)
   by-role h (some (rule w p q x)) e k = absurd k
   by-role h (some (event ws)) e k = absurd k
 
-  by-rule : RuleDeclared f s r → (o : Option Line) → readLine s ≡ o → isRule (kindOfLine o) → Right o
+  by-rule : RuleLineDeclared f s r → (o : Option Line) → readLine s ≡ o → isRule (kindOfLine o) → Right o
   by-rule h none e k = absurd k
   by-rule h (some (role w p)) e k = absurd k
   by-rule h (some (rule w p q x)) e k = λ t rep m. h .right t rep m w p q x (line-taken s (rule w p q x) .0 e .0)
   by-rule h (some (event ws)) e k = absurd k
 
-  pub line-role : kindOfLine (readLine s) ≡ Role → RoleDeclared f s r → LineDeclared f s r
+  pub line-role : kindOfLine (readLine s) ≡ Role → RoleLineDeclared f s r → LineDeclared f s r
   line-role e h = record { steady = h .steady; right = by-role h (readLine s) refl (subst isRole (sym e) tt) }
 
-  pub line-rule : kindOfLine (readLine s) ≡ Rule → RuleDeclared f s r → LineDeclared f s r
+  pub line-rule : kindOfLine (readLine s) ≡ Rule → RuleLineDeclared f s r → LineDeclared f s r
   line-rule e h = record { steady = h .steady; right = by-rule h (readLine s) refl (subst isRule (sym e) tt) }
 
 module _ (f : State) (s : List ℕ) where
-  by-neither : (o : Option Line) → readLine s ≡ o → isNeither (kindOfLine o) → (t : Tracked) → Represents f t → DeclaredAs f t (lineAsked t o) (refuse f 4)
+  by-neither : (o : Option Line) → readLine s ≡ o → isNeither (kindOfLine o) → (t : PositionMachine) → Represents f t → DeclaredAs f t (lineAsked t o) (refuse f 4)
   unfolding askedLine
   by-neither none e k t rep = refl
   by-neither (some (role w p)) e k t rep = absurd k

@@ -7,11 +7,12 @@ use mathlib.Core.List.{List}
 use Prim.Native.Nat.{ℕ, zero, suc, _<_}
 use native.Mathlib.Omega.{arith}
 use lib.Dec.{ltb}
-use lib.ListN.{length, take, getD}
+use lib.ListN.{length, getD}
 use lib.Seq.{length-take-le, getD-take}
 use borrow.Author.Tests.{lt-ltb, ltb-true, ltb-false}
+use Rattle.common.specs.Limits.{maxRoles}
 use Rattle.lexer.specs.Words.{same}
-use Rattle.lexer.proofs.Bools.{or-left, or-right, or-cases, true-not-false}
+use Rattle.common.proofs.Bools.{or-left, or-right, or-cases, true-not-false, same-test}
 use Rattle.lexer.proofs.KindLaws.{same-true}
 use Rattle.lexer.proofs.SameLaws.{same-refl}
 use Rattle.names.specs.Name.{packed}
@@ -19,19 +20,14 @@ use Rattle.names.specs.Place.{place, held}
 use Rattle.names.proofs.NameLaws.{name-same}
 use Rattle.names.proofs.PlaceLaws.{place-exactly, place-holds}
 use Rattle.code.specs.Code.{idOf}
+use Rattle.code.proofs.IdLaws.{Few, id-held}
 use Rattle.patterns.specs.Roles.{isHeld}
 use Rattle.patterns.specs.Table.{rolesOf}
-use Rattle.follow.specs.State.{capped, maxRoles}
+use Rattle.follow.specs.State.{capped}
 use Rattle.follow.specs.declared.state.Sheet.{Sheet}
-use Rattle.follow.proofs.Limits.{capped-small}
+use Rattle.follow.proofs.CappedLaws.{capped-small}
 use Rattle.intake.specs.Names.{Name}
 use Rattle.intake.specs.Represents.{nameAt, tableOf, rolesIn, NameWord, Naming}
-
--- two tests that hold together are the same
-pub both-ways : (a b : Bool) → (a ≡ true → b ≡ true) → (b ≡ true → a ≡ true) → a ≡ b
-both-ways true b f g = sym (f refl)
-both-ways false true f g = g refl
-both-ways false false f g = refl
 
 -- packed names that are equal are one name
 pub word-same : (w v : Name) → NameWord w → NameWord v → packed w ≡ packed v → w ≡ v
@@ -46,6 +42,10 @@ module _ (s : Sheet) (n : Naming s) where
 
   pub table-long : length table ≡ s .«role_count»
   table-long = length-take-le (s .«role_count») (s .names) (n .there)
+
+  -- every name held has an id
+  pub table-few : Few table
+  table-few = omega (arith, table-long, n .few)
 
   table-at : (i : ℕ) → i < s .«role_count» → getD table i 0 ≡ packed (nameAt s i)
   table-at i h = getD-take (s .«role_count») (s .names) i 0 h ∙ n .packed i h
@@ -75,7 +75,7 @@ module _ (s : Sheet) (n : Naming s) where
         word-same _ w (n .word (place (packed w) table) h) a (sym (table-at (place (packed w) table) h) ∙ e)
 
     pub held-is : held table w ≡ isHeld same (rolesIn s) w
-    held-is = both-ways _ _ down up
+    held-is = same-test _ _ (down, up)
       where
         down : held table w ≡ true → isHeld same (rolesIn s) w ≡ true
         down e =
@@ -90,7 +90,6 @@ module _ (s : Sheet) (n : Naming s) where
 
     -- the id of a name that is held is the id of that name
     pub id-is : held table w ≡ true → (idOf table w < s .«role_count») × (nameAt s (idOf table w) ≡ w)
-    unfolding idOf
     id-is e =
         let h : place (packed w) table < s .«role_count» = rw table-long at (ltb-true (place (packed w) table) (length table) e) in
-        rw e (h, place-is h)
+        rw (sym (id-held table w table-few e)) (h, place-is h)

@@ -6,17 +6,17 @@ use mathlib.Core.List.{List, [], _∷_}
 use Prim.Native.Nat.{ℕ, zero, suc, _<_, _≤_}
 use native.Mathlib.Omega.{arith}
 use lib.Dec.{eqb}
-use lib.ListN.{length, getD}
+use lib.ListN.{length, getD, length-map}
 use borrow.Author.Tests.{eq-eqb, eqb-true}
 use Rattle.lexer.specs.Words.{same}
-use Rattle.lexer.proofs.Bools.{and-left, and-right, not-not}
+use Rattle.common.proofs.Bools.{and-left, and-right, not-not, same-test}
 use Rattle.lexer.proofs.KindLaws.{same-true}
 use Rattle.lexer.proofs.SameLaws.{same-refl}
 use Rattle.names.specs.Name.{packed}
 use Rattle.names.specs.Place.{held}
-use Rattle.code.specs.Code.{idOf}
-use Rattle.code.specs.Lines.{lacks}
-use Rattle.patterns.specs.All.{All}
+use Rattle.code.specs.Code.{idOf, lacks}
+use Rattle.code.proofs.IdLaws.{id-tells}
+use Rattle.common.specs.All.{All}
 use Rattle.patterns.specs.Roles.{isHeld, allHeld}
 use Rattle.patterns.specs.Table.{rolesOf}
 use Rattle.follow.specs.State.{isNamed, takenIn, isTaken}
@@ -25,14 +25,19 @@ use Rattle.follow.specs.declared.state.State.{State}
 use Rattle.follow.proofs.StateLaws.{named-none, named-more}
 use Rattle.intake.specs.Names.{Name, Roles}
 use Rattle.intake.specs.Asked.{isRule, isFree}
-use Rattle.intake.specs.Machine.{Tracked, Followed, namesOf}
+use Rattle.intake.specs.Machine.{PositionMachine, PositionRule, namesOf}
 use Rattle.intake.specs.Represents.{nameAt, tableOf, rolesIn, NameWord, Sized, Naming, Rules, rules-none, rules-more, Represents}
 use Rattle.intake.proofs.Naming as naming
-use Rattle.intake.proofs.Naming.{both-ways, word-same}
+use Rattle.intake.proofs.Naming.{word-same}
 
 roles-long : (nm : ℕ → Name) (ps : List ℕ) (n : ℕ) → length (rolesOf nm ps n) ≡ n
 roles-long nm ps zero = refl
 roles-long nm ps (suc n) = ap suc (roles-long nm ps n)
+
+-- as many rules as are kept
+pub rules-long : (f : State) (k : ℕ) (l : List PositionRule) → Rules f k l → length l ≡ k
+rules-long f zero [] rules-none = refl
+rules-long f (suc k) (r ∷ l) (rules-more x xs) = ap suc (rules-long f k l xs)
 
 not-both : (a b : Bool) → (not a || not b) ≡ not (a && b)
 not-both true b = refl
@@ -44,7 +49,7 @@ module _ (s : Sheet) (n : Naming s) where
   unfolding lacks
   lacks-in [] a = refl
   lacks-in (w ∷ ws) a =
-      ap₂ (λ (p q : Bool). p || q) (ap not (naming.held-is s n w (a .0))) (lacks-in ws (a .1)) ∙ not-both (isHeld same (rolesIn s) w) (allHeld same (rolesIn s) ws)
+      ap₂ (λ (p q : Bool). p || q) (id-tells (tableOf s) w (naming.table-few s n) ∙ ap not (naming.held-is s n w (a .0))) (lacks-in ws (a .1)) ∙ not-both (isHeld same (rolesIn s) w) (allHeld same (rolesIn s) ws)
 
   -- the ids of names that are held
   abbrev pub Found : Name → Type 0
@@ -57,7 +62,7 @@ module _ (s : Sheet) (n : Naming s) where
     found-in ws (a .1) (and-right (isHeld same (rolesIn s) w) (allHeld same (rolesIn s) ws) e),
   )
 
-module _ (f : State) (z : Sized f) (t : Tracked) (rep : Represents f t) where
+module _ (f : State) (z : Sized f) (t : PositionMachine) (rep : Represents f t) where
   abbrev n : Naming (f .sheet)
   n = rep .naming
 
@@ -67,20 +72,16 @@ module _ (f : State) (z : Sized f) (t : Tracked) (rep : Represents f t) where
   pub roles-length : length (t .roles) ≡ f .sheet .«role_count»
   roles-length = ap length (rep .roles) ∙ roles-long (nameAt (f .sheet)) (f .sheet .parents) (f .sheet .«role_count»)
 
-  rules-long : (k : ℕ) (l : List Followed) → Rules f k l → length (namesOf l) ≡ k
-  rules-long zero [] rules-none = refl
-  rules-long (suc k) (r ∷ l) (rules-more x xs) = ap suc (rules-long k l xs)
-
   pub rules-length : length (namesOf (t .rules)) ≡ f .sheet .«rule_count»
-  rules-length = rules-long (f .sheet .«rule_count») (t .rules) (rep .rules)
+  rules-length = length-map (t .rules) (λ x. x .rule .name) ∙ rules-long f (f .sheet .«rule_count») (t .rules) (rep .rules)
 
   pub held-is : (w : Name) → NameWord w → held table w ≡ isHeld same (t .roles) w
   held-is w a = naming.held-is (f .sheet) n w a ∙ ap (λ (rs : Roles). isHeld same rs w) (sym (rep .roles))
 
-  rule-named : (k : ℕ) (l : List Followed) (w : Name) → NameWord w → k ≤ length (f .sheet .«rule_names») → Rules f k l → isNamed k (f .sheet .«rule_names») (packed w) ≡ isRule (namesOf l) w
+  rule-named : (k : ℕ) (l : List PositionRule) (w : Name) → NameWord w → k ≤ length (f .sheet .«rule_names») → Rules f k l → isNamed k (f .sheet .«rule_names») (packed w) ≡ isRule (namesOf l) w
   rule-named zero [] w a m rules-none = named-none (f .sheet .«rule_names») (packed w)
   rule-named (suc k) (r ∷ l) w a m (rules-more x xs) =
-      named-more (f .sheet .«rule_names») (packed w) k m ∙ ap₂ (λ (p q : Bool). p || q) (both-ways _ _ down up) (rule-named k l w a (omega arith) xs)
+      named-more (f .sheet .«rule_names») (packed w) k m ∙ ap₂ (λ (p q : Bool). p || q) (same-test _ _ (down, up)) (rule-named k l w a (omega arith) xs)
     where
       down : eqb (getD (f .sheet .«rule_names») k 0) (packed w) ≡ true → same w (r .rule .name) ≡ true
       down e =

@@ -14,37 +14,37 @@ use Rattle.follow.specs.declared.state.State.{State}
 use Rattle.follow.specs.declared.declare.Declared.{Declared}
 use Rattle.intake.specs.Names.{Name}
 use Rattle.intake.specs.Asked.{Asked, refusedBy, asksRole, asksRule, asksEvent, askedLine}
-use Rattle.intake.specs.Machine.{Tracked, withRole, withRule, namesOf}
+use Rattle.intake.specs.Machine.{PositionMachine, withRole, withRule, namesOf}
 use Rattle.intake.specs.Represents.{NameWord, Represents}
 
 -- the name w is declared, and the state left represents the machine t
-pub record Declares (w : Name) (t : Tracked) (r : Declared) : Type 0 where
+pub record Declares (w : Name) (t : PositionMachine) (r : Declared) : Type 0 where
   pub is : r ≡ taken (packed w) (r .state)
   pub word : NameWord w
   pub state : Represents (r .state) t
 
 -- r is what becomes of a line that asks a of the machine t; a line asks for no event
-abbrev pub DeclaredAs : State → Tracked → Asked → Declared → Type 0
+abbrev pub DeclaredAs : State → PositionMachine → Asked → Declared → Type 0
 DeclaredAs f t (refusedBy n) r = r ≡ refuse f n
 DeclaredAs f t (asksRole w p) r = Declares w (withRole t w p) r
 DeclaredAs f t (asksRule x) r = Declares (x .name) (withRule t x) r
 DeclaredAs f t (asksEvent ws) r = ⊥
 
 -- what the text of a line asks of the machine
-abbrev pub lineAsked : Tracked → Option Line → Asked
+abbrev pub lineAsked : PositionMachine → Option Line → Asked
 lineAsked t l = askedLine (t .roles) (namesOf (t .rules)) l
 
 -- a role line
-pub record RoleDeclared (f : State) (s : List ℕ) (r : Declared) : Type 0 where
+pub record RoleLineDeclared (f : State) (s : List ℕ) (r : Declared) : Type 0 where
   pub steady : Unmoved f r
-  pub right : (t : Tracked) → Represents f t → length s ≤ 126 → (w p : Name) → Says s (role w p) → DeclaredAs f t (lineAsked t (some (role w p))) r
+  pub right : (t : PositionMachine) → Represents f t → length s ≤ 126 → (w p : Name) → Says s (role w p) → DeclaredAs f t (lineAsked t (some (role w p))) r
 
 -- a rule line
-pub record RuleDeclared (f : State) (s : List ℕ) (r : Declared) : Type 0 where
+pub record RuleLineDeclared (f : State) (s : List ℕ) (r : Declared) : Type 0 where
   pub steady : Unmoved f r
-  pub right : (t : Tracked) → Represents f t → length s ≤ 126 → (w : Name) (p : Past) (q : Pattern) (x : Response) → Says s (rule w p q x) → DeclaredAs f t (lineAsked t (some (rule w p q x))) r
+  pub right : (t : PositionMachine) → Represents f t → length s ≤ 126 → (w : Name) (p : Past) (q : Pattern) (x : Response) → Says s (rule w p q x) → DeclaredAs f t (lineAsked t (some (rule w p q x))) r
 
 -- the text of any line, refusal 4 included
 pub record LineDeclared (f : State) (s : List ℕ) (r : Declared) : Type 0 where
   pub steady : Unmoved f r
-  pub right : (t : Tracked) → Represents f t → length s ≤ 126 → DeclaredAs f t (lineAsked t (readLine s)) r
+  pub right : (t : PositionMachine) → Represents f t → length s ≤ 126 → DeclaredAs f t (lineAsked t (readLine s)) r

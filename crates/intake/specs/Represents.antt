@@ -6,8 +6,9 @@ use mathlib.Core.List.{List, [], _∷_}
 use Prim.Native.Nat.{ℕ, suc, _≤_, _<_, _^_}
 use lib.Dec.{eqb}
 use lib.ListN.{length, take, getD}
+use Rattle.common.specs.Limits.{maxPatterns, maxRoles, maxRules}
 use Rattle.lexer.specs.Words.{same, kindOf, nameK}
-use Rattle.lexer.proofs.WordLaws.{Wordy}
+use Rattle.lexer.specs.Class.{Wordy}
 use Rattle.grammar.specs.AsRead.{rule}
 use Rattle.grammar.specs.Rename.{mapPast, mapPattern, mapResponse}
 use Rattle.grammar.specs.Names.{ruleNames}
@@ -15,16 +16,15 @@ use Rattle.grammar.specs.Size.{sizePast}
 use Rattle.grammar.specs.Lines.{Says}
 use Rattle.names.specs.Name.{packed}
 use Rattle.names.specs.Unpacked.{unpacked}
-use Rattle.code.specs.Count.{limit}
-use Rattle.patterns.specs.All.{All}
+use Rattle.common.specs.All.{All}
 use Rattle.patterns.specs.Table.{Ordered, rolesOf}
 use Rattle.follow.specs.Rules.{Tree, Short, Keeps}
-use Rattle.follow.specs.State.{ruleAt, maxRoles, maxRules}
+use Rattle.follow.specs.State.{ruleAt}
 pub use Rattle.follow.specs.State.{Sized}
 use Rattle.follow.specs.declared.state.Sheet.{Sheet}
 use Rattle.follow.specs.declared.state.State.{State}
 use Rattle.intake.specs.Names.{Name, Roles, Rule}
-use Rattle.intake.specs.Machine.{Followed, Tracked}
+use Rattle.intake.specs.Machine.{PositionRule, PositionMachine}
 
 -- THE ROLES
 
@@ -73,7 +73,7 @@ pub record RuleIs (s : Sheet) (i : ℕ) (r : Rule) : Type 0 where
   pub keeps : Keeps (ruleAt s i) tree
   pub ids : All (λ k. k < s .«role_count») (ruleNames (tree .past) (tree .trigger) (tree .response))
   pub short : Short (tree .response)
-  pub small : sizePast (tree .past) ≤ limit
+  pub small : sizePast (tree .past) ≤ maxPatterns
   pub named : getD (s .«rule_names») i 0 ≡ packed (r .name)
   pub word : NameWord (r .name)
   pub past : r .past ≡ mapPast (nameAt s) (tree .past)
@@ -84,18 +84,18 @@ pub record RuleIs (s : Sheet) (i : ℕ) (r : Rule) : Type 0 where
 -- THE STATE
 
 -- rule i of the state is x: the sheet has its rule, and its number is x's positions, which are among 0 .. n, n the number of its patterns
-pub record FollowedIs (f : State) (i : ℕ) (x : Followed) : Type 0 where
+pub record PositionRuleIs (f : State) (i : ℕ) (x : PositionRule) : Type 0 where
   pub rule : RuleIs (f .sheet) i (x .rule)
   pub positions : getD (f .positions) i 0 ≡ x .positions
   pub within : x .positions < 2 ^ suc (sizePast (x .rule .past))
 
 -- the first n rules, the last declared first
-pub data Rules (f : State) : ℕ → List Followed → Type 0 where
+pub data Rules (f : State) : ℕ → List PositionRule → Type 0 where
   rules-none : Rules f 0 []
-  rules-more : {n : ℕ} {x : Followed} {l : List Followed} → FollowedIs f n x → Rules f n l → Rules f (suc n) (x ∷ l)
+  rules-more : {n : ℕ} {x : PositionRule} {l : List PositionRule} → PositionRuleIs f n x → Rules f n l → Rules f (suc n) (x ∷ l)
 
 -- a state stands for a machine with positions: the same roles by their names, the same rules by their trees and positions
-pub record Represents (f : State) (t : Tracked) : Type 0 where
+pub record Represents (f : State) (t : PositionMachine) : Type 0 where
   pub naming : Naming (f .sheet)
   pub few : f .sheet .«rule_count» ≤ maxRules
   pub roles : t .roles ≡ rolesIn (f .sheet)

@@ -1,13 +1,14 @@
 // What a record asks, by the names held. Nothing is declared here, and nothing changes.
 use code::event_line;
 use follow::Event;
-use follow::state::capped;
+use follow::capped;
 use frame::Frame;
 use frame::framed;
 use frame::text;
 ghost use mathlib.Core.Path.{_≡_};
 ghost use lib.ListN.{take};
-ghost use Rattle.intake.specs.Asking.{refusal, aLine, EventAsks, Asks};
+ghost use Rattle.code.specs.Events.{eventLineOf};
+ghost use Rattle.intake.specs.Asking.{refusal, aLine, eventRequest, Asks};
 
 // A record is refused; or it is a line, to be declared; or an event, to be worked.
 pub enum Kind {
@@ -55,7 +56,7 @@ fn a_line() -> Request
 
 // What the text of an event asks: refusal 4 or 6, or the event.
 fn ask_event(text: &[u8], names: &[u64]) -> Request
-    ensures { λ r. ⌜ EventAsks (now (names .entry)) (now (text .entry)) r ⌝ }
+    ensures { λ r. ⌜ r ≡ eventRequest (eventLineOf (now (names .entry)) (now (text .entry))) ⌝ }
 {
     let line = event_line(text, names);
     if line.fits {

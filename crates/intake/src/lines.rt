@@ -3,19 +3,20 @@ use code::RoleLine;
 use code::RuleLine;
 use follow::Declared;
 use follow::State;
+use follow::capped;
 use follow::declare_role;
 use follow::declare_rule;
 use follow::refused;
-use follow::state::capped;
 use grammar::Kind;
 use grammar::line_kind;
+ghost use mathlib.Core.Path.{_≡_};
 ghost use lib.ListN.{take};
-ghost use Rattle.code.specs.Lines.{RoleRead, RuleRead};
+ghost use Rattle.code.specs.Lines.{roleLineOf, ruleLineOf};
 ghost use Rattle.intake.specs.Declaring.{LineDeclared};
 
 // A role line, read by the first count names.
 fn read_role<'a>(text: &'a [u8], names: &'a [u64], count: usize) -> RoleLine
-    ensures { λ r. ⌜ RoleRead (take count (now (names .entry))) (now (text .entry)) r ⌝ }
+    ensures { λ r. ⌜ r ≡ roleLineOf (take count (now (names .entry))) (now (text .entry)) ⌝ }
 {
     let held = capped(names.len(), count);
     code::role_line(text, &names[..held])
@@ -23,7 +24,7 @@ fn read_role<'a>(text: &'a [u8], names: &'a [u64], count: usize) -> RoleLine
 
 // A rule line, read by the first count names.
 fn read_rule<'a>(text: &'a [u8], names: &'a [u64], count: usize) -> RuleLine
-    ensures { λ r. ⌜ RuleRead (take count (now (names .entry))) (now (text .entry)) r ⌝ }
+    ensures { λ r. ⌜ r ≡ ruleLineOf (take count (now (names .entry))) (now (text .entry)) ⌝ }
 {
     let held = capped(names.len(), count);
     code::rule_line(text, &names[..held])

@@ -13,24 +13,20 @@ use Rattle.patterns.proofs.TableNames.{split}
 use Rattle.follow.specs.State as state
 use Rattle.follow.specs.declared.state.State.{State}
 use Rattle.intake.specs.Names.{Rule}
-use Rattle.intake.specs.Machine.{Followed, Tracked}
+use Rattle.intake.specs.Machine.{PositionRule, PositionMachine}
 use Rattle.intake.specs.Represents.{RuleIs, Rules, rules-none, rules-more, Represents}
-use Rattle.judge.specs.Judge.{ruleAt, isWhole, judgeOf}
+use Rattle.intake.proofs.TakenNames.{rules-long}
+use Rattle.judge.specs.Judge.{ruleNumbered, isWhole, judgeOf}
 use Rattle.judge.specs.Judging.{ListJudged, Lent, lentOf, Judged}
 use Rattle.judge.proofs.RuleNumbers.{not-newest, is-newest, none-at}
-use Rattle.judge.specs.declared.hearing.Verdict.{Verdict}
-use Rattle.judge.specs.declared.hearing.Verdict.the-variants.{NoRule, NotWhole}
-
--- as many rules as are kept
-rules-long : (f : State) (k : ℕ) (l : List Followed) → Rules f k l → length l ≡ k
-rules-long f zero [] rules-none = refl
-rules-long f (suc k) (y ∷ l) (rules-more is rest) = ap suc (rules-long f k l rest)
+use Rattle.judge.specs.declared.answers.Verdict.{Verdict}
+use Rattle.judge.specs.declared.answers.Verdict.the-variants.{NoRule, NotWhole}
 
 -- rule i of those kept is the one that the machine has by that number
-abbrev Found : State → List Followed → ℕ → Type 0
-Found f l i = (x : Rule) × RuleIs (f .sheet) i x × (ruleAt l i ≡ some x)
+abbrev Found : State → List PositionRule → ℕ → Type 0
+Found f l i = (x : Rule) × RuleIs (f .sheet) i x × (ruleNumbered l i ≡ some x)
 
-rule-at : (f : State) (k : ℕ) (l : List Followed) (i : ℕ) → Rules f k l → i < k → Found f l i
+rule-at : (f : State) (k : ℕ) (l : List PositionRule) (i : ℕ) → Rules f k l → i < k → Found f l i
 rule-at f zero [] i rules-none h = absurd (omega arith)
 rule-at f (suc k) (y ∷ l) i (rules-more is rest) h = ⊎-elim (λ m. before (rule-at f k l i rest m) m) latest (split i k (omega arith))
   where
@@ -43,7 +39,7 @@ rule-at f (suc k) (y ∷ l) i (rules-more is rest) h = ⊎-elim (λ m. before (r
     latest : i ≡ k → Found f (y ∷ l) i
     latest e = (y .rule, subst (λ (j : ℕ). RuleIs (f .sheet) j (y .rule)) (sym e) (is .rule), is-newest y l i (e ∙ sym n))
 
-no-rule-at : (f : State) (k : ℕ) (l : List Followed) (i : ℕ) → Rules f k l → k ≤ i → ruleAt l i ≡ none
+no-rule-at : (f : State) (k : ℕ) (l : List PositionRule) (i : ℕ) → Rules f k l → k ≤ i → ruleNumbered l i ≡ none
 no-rule-at f k l i rules h = none-at l i (subst (λ (j : ℕ). j ≤ i) (sym (rules-long f k l rules)) h)
 
 pub part-uneven : (s : List ℕ) → (length s % 128 ≡ 0 → ⊥) → isWhole s ≡ false
@@ -60,7 +56,7 @@ module _ (l : Lent) (i : ℕ) (s : List ℕ) where
   unfolding judgeOf
   judged-none h = record { right = λ f e t rep. rw (no-rule-at f (f .sheet .«rule_count») (t .rules) i (rep .rules) (subst (λ (k : Lent). k .rules ≤ i) e h)) refl }
 
-  found : (f : State) → l ≡ lentOf (f .sheet) → (t : Tracked) → Represents f t → i < l .rules → Found f (t .rules) i
+  found : (f : State) → l ≡ lentOf (f .sheet) → (t : PositionMachine) → Represents f t → i < l .rules → Found f (t .rules) i
   found f e t rep h = rule-at f (f .sheet .«rule_count») (t .rules) i (rep .rules) (subst (λ (k : Lent). i < k .rules) e h)
 
   -- 10

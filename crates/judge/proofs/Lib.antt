@@ -1,8 +1,8 @@
 pub mod RuleNumbers
-pub mod HearLaws
+pub mod RecordLaws
 pub mod ListLaws
 pub mod JudgeLaws
 pub mod Verdicts
-pub mod HearExactly
+pub mod RecordExactly
 pub mod RecordsExactly
 pub mod Exactly

@@ -10,14 +10,14 @@ use lib.Dec.{eqb, leb}
 use lib.ListN.{length, length-drop, drop}
 use lib.Seq.{length-take-le}
 use borrow.Author.Tests.{eqb-true, leb-true, eq-eqb, le-leb}
-use Rattle.lexer.proofs.Bools.{and-left, and-right}
+use Rattle.common.proofs.Bools.{and-left, and-right}
 use Rattle.grammar.specs.AsRead.{Past}
 use Rattle.frame.specs.Records.{recordsOf}
-use Rattle.patterns.specs.All.{All}
+use Rattle.common.specs.All.{All}
 use Rattle.intake.specs.Names.{Event, Roles}
-use Rattle.judge.specs.Judge.{Heard, heardEvent, turned, hear, onHeard, judgeRecords, isWhole, numberOf}
-use Rattle.judge.specs.Rows.{Whole, turns-3, turns-3-line, turns-4, turns-6, Acts, acts-none, acts-more, FirstTurned, turned-first, turned-after}
-use Rattle.judge.proofs.HearExactly.{Hears, hears, act-heard, turn-heard}
+use Rattle.judge.specs.Judge.{RecordAnswer, anEvent, refusal, recordAnswer, onAnswer, judgeRecords, isWhole, numberOf}
+use Rattle.judge.specs.Rows.{Whole, record-3, record-3-line, record-4, record-6, Acts, acts-none, acts-more, FirstRefused, refused-first, refused-after}
+use Rattle.judge.proofs.RecordExactly.{RecordAnswers, record-answers, act-answer, refusal-answer}
 use Rattle.judge.proofs.Verdicts.{Say, say-none, say-more}
 
 abbrev pub Sized : List (List ℕ) → Type 0
@@ -48,34 +48,34 @@ module _ (s : List ℕ) (n : ℕ) (w : Whole s n) where
 module _ (rs : Roles) (p : Past) where
   -- every record says an event, or a first one is refused, and with the answer's number
   abbrev pub Told : List Event → List (List ℕ) → Type 0
-  Told es l = ((fs : List Event) × Acts rs l fs) ⊎ FirstTurned rs l (numberOf (judgeRecords rs p es l))
+  Told es l = ((fs : List Event) × Acts rs l fs) ⊎ FirstRefused rs l (numberOf (judgeRecords rs p es l))
 
   pub records-told : (es : List Event) (l : List (List ℕ)) → Sized l → Told es l
   unfolding judgeRecords
   records-told es [] z = inl ([], acts-none)
-  records-told es (r ∷ l) z = go (hear rs r) (hears rs r (z .0)) (λ e. records-told (es ++ (e ∷ [])) l (z .1))
+  records-told es (r ∷ l) z = go (recordAnswer rs r) (record-answers rs r (z .0)) (λ e. records-told (es ++ (e ∷ [])) l (z .1))
     where
-      go : (h : Heard) → Hears rs r h → ((e : Event) → Told (es ++ (e ∷ [])) l)
-          → ((fs : List Event) × Acts rs (r ∷ l) fs) ⊎ FirstTurned rs (r ∷ l) (numberOf (onHeard h (λ e. judgeRecords rs p (es ++ (e ∷ [])) l)))
-      go (heardEvent e) a more = ⊎-elim (λ x. inl (e ∷ x .0, acts-more a (x .1))) (λ k. inr (turned-after a k)) (more e)
-      go (turned v) k more = inr (turned-first k)
+      go : (h : RecordAnswer) → RecordAnswers rs r h → ((e : Event) → Told (es ++ (e ∷ [])) l)
+          → ((fs : List Event) × Acts rs (r ∷ l) fs) ⊎ FirstRefused rs (r ∷ l) (numberOf (onAnswer h (λ e. judgeRecords rs p (es ++ (e ∷ [])) l)))
+      go (anEvent e) a more = ⊎-elim (λ x. inl (e ∷ x .0, acts-more a (x .1))) (λ k. inr (refused-after a k)) (more e)
+      go (refusal v) k more = inr (refused-first k)
 
   pub acts-say : (l : List (List ℕ)) (es : List Event) → Acts rs l es → Say rs l es
   acts-say [] [] acts-none = say-none
-  acts-say (r ∷ l) (e ∷ es) (acts-more a h) = say-more (act-heard rs r e a) (acts-say l es h)
+  acts-say (r ∷ l) (e ∷ es) (acts-more a h) = say-more (act-answer rs r e a) (acts-say l es h)
 
-  pub turned-number : (es : List Event) (l : List (List ℕ)) (k : ℕ) → FirstTurned rs l k → numberOf (judgeRecords rs p es l) ≡ k
+  pub record-refused-number : (es : List Event) (l : List (List ℕ)) (k : ℕ) → FirstRefused rs l k → numberOf (judgeRecords rs p es l) ≡ k
   unfolding judgeRecords
-  turned-number es (r ∷ l) k (turned-first h) =
-      let d = turn-heard rs r k h in
-      ap (λ (x : Heard). numberOf (onHeard x (λ e. judgeRecords rs p (es ++ (e ∷ [])) l))) (d .1) ∙ d .2
-  turned-number es (r ∷ l) k (turned-after {e = e} a h) =
-      ap (λ (x : Heard). numberOf (onHeard x (λ y. judgeRecords rs p (es ++ (y ∷ [])) l))) (act-heard rs r e a) ∙ turned-number (es ++ (e ∷ [])) l k h
+  record-refused-number es (r ∷ l) k (refused-first h) =
+      let d = refusal-answer rs r k h in
+      ap (λ (x : RecordAnswer). numberOf (onAnswer x (λ e. judgeRecords rs p (es ++ (e ∷ [])) l))) (d .1) ∙ d .2
+  record-refused-number es (r ∷ l) k (refused-after {e = e} a h) =
+      ap (λ (x : RecordAnswer). numberOf (onAnswer x (λ y. judgeRecords rs p (es ++ (y ∷ [])) l))) (act-answer rs r e a) ∙ record-refused-number (es ++ (e ∷ [])) l k h
 
 -- a record's refusal has a number that is not 0
-pub turned-above : (rs : Roles) (l : List (List ℕ)) (k : ℕ) → FirstTurned rs l k → 0 < k
-turned-above rs (r ∷ l) k (turned-first (turns-3 h)) = omega arith
-turned-above rs (r ∷ l) k (turned-first (turns-3-line h)) = omega arith
-turned-above rs (r ∷ l) k (turned-first (turns-4 f h)) = omega arith
-turned-above rs (r ∷ l) k (turned-first (turns-6 f h u)) = omega arith
-turned-above rs (r ∷ l) k (turned-after a h) = turned-above rs l k h
+pub refused-number-above : (rs : Roles) (l : List (List ℕ)) (k : ℕ) → FirstRefused rs l k → 0 < k
+refused-number-above rs (r ∷ l) k (refused-first (record-3 h)) = omega arith
+refused-number-above rs (r ∷ l) k (refused-first (record-3-line h)) = omega arith
+refused-number-above rs (r ∷ l) k (refused-first (record-4 f h)) = omega arith
+refused-number-above rs (r ∷ l) k (refused-first (record-6 f h u)) = omega arith
+refused-number-above rs (r ∷ l) k (refused-after a h) = refused-number-above rs l k h

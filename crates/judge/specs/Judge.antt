@@ -4,9 +4,10 @@
 use mathlib.Core.Bool.{Bool, cond, _&&_}
 use mathlib.Core.List.{List, [], _∷_, _++_}
 use mathlib.Core.Option.{Option, none, some}
-use Prim.Native.Nat.{ℕ, _/_, _%_}
+use Prim.Native.Nat.{ℕ, _*_, _/_, _%_}
 use lib.Dec.{eqb, leb}
 use lib.ListN.{length}
+use Rattle.common.specs.Limits.{recordSize, maxRecords}
 use Rattle.lexer.specs.Words.{same}
 use Rattle.grammar.specs.AsRead.{Past, Line}
 use Rattle.grammar.specs.Lines.{readEvent}
@@ -20,9 +21,9 @@ use Rattle.positions.specs.Matcher.{matches}
 use Rattle.follow.specs.Meaning.{pastMeaning}
 use Rattle.intake.specs.Asked.{Asked, refusedBy, asksRole, asksRule, asksEvent, askedEvent}
 use Rattle.intake.specs.Names.{Event, Roles, Rule}
-use Rattle.intake.specs.Machine.{Followed, Tracked}
-use Rattle.judge.specs.declared.hearing.Verdict.{Verdict}
-use Rattle.judge.specs.declared.hearing.Verdict.the-variants.{Yes, No, NoRule, NotWhole, Malformed, NotInLanguage, Unknown}
+use Rattle.intake.specs.Machine.{PositionRule, PositionMachine}
+use Rattle.judge.specs.declared.answers.Verdict.{Verdict}
+use Rattle.judge.specs.declared.answers.Verdict.the-variants.{Yes, No, NoRule, NotWhole, Malformed, NotInLanguage, Unknown}
 
 -- document 01's number of each answer; yes and no refuse nothing
 abbrev pub numberOf : Verdict → ℕ
@@ -35,54 +36,54 @@ numberOf NotInLanguage = 4
 numberOf Unknown = 6
 
 -- what a record gives: an event (document 01: act), or a refusal
-pub data Heard : Type 0 where
-  heardEvent : Event → Heard
-  turned : Verdict → Heard
+pub data RecordAnswer : Type 0 where
+  anEvent : Event → RecordAnswer
+  refusal : Verdict → RecordAnswer
 
 -- the answer where row n refuses: 4, "text not in the language"; 6, "a role used .. isn't declared"; the rows before them are 3 to the judge
 abbrev pub verdictBy : ℕ → Verdict
 verdictBy n = cond (eqb n 6) Unknown (cond (eqb n 4) NotInLanguage Malformed)
 
--- what a record gives that asks this: only an event is heard
-abbrev pub heardBy : Asked → Heard
-heardBy (refusedBy n) = turned (verdictBy n)
-heardBy (asksRole w p) = turned Malformed
-heardBy (asksRule r) = turned Malformed
-heardBy (asksEvent e) = heardEvent e
+-- what a record gives that asks this: only an event is taken
+abbrev pub answerBy : Asked → RecordAnswer
+answerBy (refusedBy n) = refusal (verdictBy n)
+answerBy (asksRole w p) = refusal Malformed
+answerBy (asksRule r) = refusal Malformed
+answerBy (asksEvent e) = anEvent e
 
 -- 4, then 6, as the one table has them (intake, specs/Asked.antt)
-unfoldable pub hearText : Roles → Option Line → Heard
-hearText rs o = heardBy (askedEvent rs o)
+unfoldable pub textAnswer : Roles → Option Line → RecordAnswer
+textAnswer rs o = answerBy (askedEvent rs o)
 
 -- 3, "byte 0 not `L` or `E` (judge: not `E`)"
-unfoldable pub hearFrame : Roles → Frame → List ℕ → Heard
-hearFrame rs EventRecord s = hearText rs (readEvent s)
-hearFrame rs LineRecord s = turned Malformed
-hearFrame rs WrongLength s = turned Malformed
-hearFrame rs MalformedRecord s = turned Malformed
+unfoldable pub frameAnswer : Roles → Frame → List ℕ → RecordAnswer
+frameAnswer rs EventRecord s = textAnswer rs (readEvent s)
+frameAnswer rs LineRecord s = refusal Malformed
+frameAnswer rs WrongLength s = refusal Malformed
+frameAnswer rs MalformedRecord s = refusal Malformed
 
--- a record heard: refusals 3, 4 and 6, or its event
-unfoldable pub hear : Roles → List ℕ → Heard
-hear rs s = hearFrame rs (frameOf s) (textOf s)
+-- what a record gives: refusals 3, 4 and 6, or its event
+unfoldable pub recordAnswer : Roles → List ℕ → RecordAnswer
+recordAnswer rs s = frameAnswer rs (frameOf s) (textOf s)
 
 -- "the first refusal found is its answer"
-abbrev pub onHeard : Heard → (Event → Verdict) → Verdict
-onHeard (heardEvent e) go = go e
-onHeard (turned v) go = v
+abbrev pub onAnswer : RecordAnswer → (Event → Verdict) → Verdict
+onAnswer (anEvent e) go = go e
+onAnswer (refusal v) go = v
 
 -- "its records in turn", and then yes or no by Appendix A over the list given: es are the events so far
 unfoldable pub judgeRecords : Roles → Past → List Event → List (List ℕ) → Verdict
 judgeRecords rs p es [] = cond (matches (meets (orderOf same rs)) (pastMeaning p) es) Yes No
-judgeRecords rs p es (r ∷ l) = onHeard (hear rs r) (λ e. judgeRecords rs p (es ++ (e ∷ [])) l)
+judgeRecords rs p es (r ∷ l) = onAnswer (recordAnswer rs r) (λ e. judgeRecords rs p (es ++ (e ∷ [])) l)
 
 -- "no rule of that number (0 is the first)"; rules stand the last declared first
-abbrev pub ruleAt : List Followed → ℕ → Option Rule
-ruleAt [] i = none
-ruleAt (x ∷ l) i = cond (eqb i (length l)) (some (x .rule)) (ruleAt l i)
+abbrev pub ruleNumbered : List PositionRule → ℕ → Option Rule
+ruleNumbered [] i = none
+ruleNumbered (x ∷ l) i = cond (eqb i (length l)) (some (x .rule)) (ruleNumbered l i)
 
 -- the opposite of "buffer not whole records, or over 256 of them"
 unfoldable pub isWhole : List ℕ → Bool
-isWhole s = eqb (length s % 128) 0 && leb (length s) 32768
+isWhole s = eqb (length s % recordSize) 0 && leb (length s) (maxRecords * recordSize)
 
 -- 9, "no rule of that number"
 abbrev pub onRule : Option Rule → (Rule → Verdict) → Verdict
@@ -90,5 +91,5 @@ onRule none go = NoRule
 onRule (some r) go = go r
 
 -- 9, then 10, then the records
-unfoldable pub judgeOf : Tracked → ℕ → List ℕ → Verdict
-judgeOf t i s = onRule (ruleAt (t .rules) i) (λ r. cond (isWhole s) (judgeRecords (t .roles) (r .past) [] (recordsOf (length s / 128) s)) NotWhole)
+unfoldable pub judgeOf : PositionMachine → ℕ → List ℕ → Verdict
+judgeOf t i s = onRule (ruleNumbered (t .rules) i) (λ r. cond (isWhole s) (judgeRecords (t .roles) (r .past) [] (recordsOf (length s / recordSize) s)) NotWhole)

@@ -7,6 +7,7 @@ use mathlib.Core.Bool.{true, false}
 use mathlib.Core.List.{List, [], _∷_, map}
 use Prim.Native.Nat.{ℕ, _*_, _≤_, _<_}
 use lib.ListN.{length, getD}
+use Rattle.common.specs.Limits.{recordSize, maxRecords}
 use Rattle.lexer.specs.Words.{same}
 use Rattle.grammar.specs.AsRead.{Line, event}
 use Rattle.grammar.specs.Lines.{Says, happens}
@@ -20,13 +21,13 @@ use Rattle.positions.specs.Past.{Sat}
 use Rattle.follow.specs.Meaning.{pastMeaning}
 use Rattle.intake.specs.Names.{Event, Roles, Rule}
 use Rattle.book.specs.Book.{Book}
-use Rattle.intake.specs.Machine.{Followed}
+use Rattle.intake.specs.Machine.{PositionRule}
 use Rattle.judge.specs.Judge.{numberOf}
-use Rattle.judge.specs.declared.hearing.Verdict.{Verdict}
-use Rattle.judge.specs.declared.hearing.Verdict.the-variants.{Yes, No}
+use Rattle.judge.specs.declared.answers.Verdict.{Verdict}
+use Rattle.judge.specs.declared.answers.Verdict.the-variants.{Yes, No}
 
 -- the rules of a machine with positions, without what they have seen
-abbrev pub rulesOf : List Followed → List Rule
+abbrev pub rulesOf : List PositionRule → List Rule
 rulesOf l = map (λ x. x .rule) l
 
 -- the same of a book
@@ -40,8 +41,8 @@ pub data Numbered : List Rule → ℕ → Rule → Type 0 where
 
 -- the opposite of "buffer not whole records, or over 256 of them"
 pub record Whole (s : List ℕ) (n : ℕ) : Type 0 where
-  pub size : length s ≡ n * 128
-  pub few : n ≤ 256
+  pub size : length s ≡ n * recordSize
+  pub few : n ≤ maxRecords
 
 module _ (rs : Roles) where
   -- a record that says the event e (document 01: act), of roles that are declared
@@ -51,14 +52,14 @@ module _ (rs : Roles) where
     pub known : allHeld same rs e ≡ true
 
   -- a record that is refused
-  pub data Turns (s : List ℕ) : ℕ → Type 0 where
+  pub data RecordRefused (s : List ℕ) : ℕ → Type 0 where
     -- "byte 0 not `L` or `E` (judge: not `E`), byte 127 not newline, or a text byte of class 0"
-    turns-3 : Fault s → Turns s 3
-    turns-3-line : (getD s 0 0 ≡ eventByte → ⊥) → Turns s 3
+    record-3 : Fault s → RecordRefused s 3
+    record-3-line : (getD s 0 0 ≡ eventByte → ⊥) → RecordRefused s 3
     -- "text not in the language"
-    turns-4 : Framed eventByte s → ((l : Line) → happens l ≡ true → Says (textOf s) l → ⊥) → Turns s 4
+    record-4 : Framed eventByte s → ((l : Line) → happens l ≡ true → Says (textOf s) l → ⊥) → RecordRefused s 4
     -- "a role used (.. in an act) isn't declared"
-    turns-6 : {e : Event} → Framed eventByte s → Says (textOf s) (event e) → allHeld same rs e ≡ false → Turns s 6
+    record-6 : {e : Event} → Framed eventByte s → Says (textOf s) (event e) → allHeld same rs e ≡ false → RecordRefused s 6
 
   -- each record says an event
   pub data Acts : List (List ℕ) → List Event → Type 0 where
@@ -66,18 +67,18 @@ module _ (rs : Roles) where
     acts-more : {s : List ℕ} {e : Event} {l : List (List ℕ)} {es : List Event} → Act s e → Acts l es → Acts (s ∷ l) (e ∷ es)
 
   -- "its records in turn by 3, 4 and 6; the first refusal found": the records before it say events
-  pub data FirstTurned : List (List ℕ) → ℕ → Type 0 where
-    turned-first : {s : List ℕ} {l : List (List ℕ)} {k : ℕ} → Turns s k → FirstTurned (s ∷ l) k
-    turned-after : {s : List ℕ} {e : Event} {l : List (List ℕ)} {k : ℕ} → Act s e → FirstTurned l k → FirstTurned (s ∷ l) k
+  pub data FirstRefused : List (List ℕ) → ℕ → Type 0 where
+    refused-first : {s : List ℕ} {l : List (List ℕ)} {k : ℕ} → RecordRefused s k → FirstRefused (s ∷ l) k
+    refused-after : {s : List ℕ} {e : Event} {l : List (List ℕ)} {k : ℕ} → Act s e → FirstRefused l k → FirstRefused (s ∷ l) k
 
   module _ (rules : List Rule) (i : ℕ) (s : List ℕ) where
     -- "The judge checks 9, then 10, then its records"
-    pub data Refused : ℕ → Type 0 where
+    pub data VerdictRefused : ℕ → Type 0 where
       -- "no rule of that number (0 is the first)"
-      refused-9 : length rules ≤ i → Refused 9
+      refused-9 : length rules ≤ i → VerdictRefused 9
       -- "buffer not whole records, or over 256 of them"
-      refused-10 : i < length rules → ((n : ℕ) → Whole s n → ⊥) → Refused 10
-      refused-record : {n k : ℕ} → i < length rules → Whole s n → FirstTurned (recordsOf n s) k → Refused k
+      refused-10 : i < length rules → ((n : ℕ) → Whole s n → ⊥) → VerdictRefused 10
+      refused-record : {n k : ℕ} → i < length rules → Whole s n → FirstRefused (recordsOf n s) k → VerdictRefused k
 
     -- no row refuses: rule i is r, and the buffer's records say es
     pub record Given (r : Rule) (es : List Event) : Type 0 where
@@ -87,7 +88,7 @@ module _ (rs : Roles) where
       pub acts : Acts (recordsOf count s) es
 
     -- "It otherwise says yes or no": yes where the list given matches the rule's past, by Appendix A and the roles held
-    pub data Row : Verdict → Type 0 where
-      row-yes : {r : Rule} {es : List Event} → Given r es → Sat (meets (orderOf same rs)) es (pastMeaning (r .past)) → Row Yes
-      row-no : {r : Rule} {es : List Event} → Given r es → (Sat (meets (orderOf same rs)) es (pastMeaning (r .past)) → ⊥) → Row No
-      row-refused : {v : Verdict} → Refused (numberOf v) → Row v
+    pub data VerdictRow : Verdict → Type 0 where
+      row-yes : {r : Rule} {es : List Event} → Given r es → Sat (meets (orderOf same rs)) es (pastMeaning (r .past)) → VerdictRow Yes
+      row-no : {r : Rule} {es : List Event} → Given r es → (Sat (meets (orderOf same rs)) es (pastMeaning (r .past)) → ⊥) → VerdictRow No
+      row-refused : {v : Verdict} → VerdictRefused (numberOf v) → VerdictRow v

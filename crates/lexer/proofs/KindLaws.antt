@@ -9,7 +9,7 @@ use native.Mathlib.Omega.{arith}
 use lib.Dec.{eqb, leb}
 use borrow.Author.Tests.{eqb-true, leb-true}
 use Rattle.lexer.specs.Class.{within}
-use Rattle.lexer.proofs.Bools.{and-left, and-right}
+use Rattle.common.proofs.Bools.{and-left, and-right}
 use Rattle.lexer.specs.Words.{same, nameLike, digitKind, kindOf, reserved, placeFrom}
 
 pub same-true : (a k : List ℕ) → same a k ≡ true → a ≡ k

@@ -1,4 +1,3 @@
-pub mod Bools
 pub mod Table
 pub mod ClassTable
 pub mod ClassedLaws

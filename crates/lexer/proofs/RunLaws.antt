@@ -1,6 +1,6 @@
 -- Laws of the longest run and of what is left after it. Each holds for any test of a byte.
 -- Assumes nothing.
-use mathlib.Core.Path.{_≡_, refl, ap, _∙_}
+use mathlib.Core.Path.{_≡_, refl, ap, sym, _∙_}
 use mathlib.Core.Bool.{Bool, true, false, cond}
 use mathlib.Core.List.{List, [], _∷_}
 use Prim.Native.Nat.{ℕ, zero, suc, _+_, _-_, _<_, _≤_, zero-le, suc-le-suc}
@@ -67,6 +67,9 @@ module _ (p : ℕ → Bool) where
       go : drop (length (run p s)) s ≡ after p s → (q : Bool) → drop (length (cond q (b ∷ run p s) [])) (b ∷ s) ≡ cond q (after p s) (b ∷ s)
       go ih true = ih
       go ih false = refl
+
+  pub after-size : (s : List ℕ) → length (after p s) ≡ length s - length (run p s)
+  after-size s = ap length (sym (run-drop s)) ∙ length-drop _ s
 
   pub after-part : (s : List ℕ) → take (length s - length (run p s)) (drop (length (run p s)) s) ≡ after p s
   after-part s = take-all (length s - length (run p s)) (drop (length (run p s)) s) (simp length-drop (omega arith)) ∙ run-drop s

@@ -4,19 +4,16 @@ use mathlib.Core.Path.{_≡_, refl}
 use mathlib.Core.Bool.{Bool, true, false, cond}
 use mathlib.Core.List.{List, [], _∷_}
 use Prim.Native.Nat.{ℕ}
-use Rattle.lexer.specs.Class.{wordy, spacey, marky}
+use Rattle.common.specs.All.{All}
+use Rattle.lexer.specs.Class.{wordy, spacey, marky, Wordy}
 use Rattle.lexer.specs.Run.{run}
 use Rattle.lexer.specs.Tokens.{Token, word, mark, other, tokenAt, tokensFrom}
 
-abbrev pub Wordy : List ℕ → Type 0
-Wordy [] = Unit {0}
-Wordy (b ∷ w) = (wordy b ≡ true) × Wordy w
-
-abbrev pub AllWordy : List Token → Type 0
-AllWordy [] = Unit {0}
-AllWordy (word w ∷ ts) = Wordy w × AllWordy ts
-AllWordy (mark b ∷ ts) = AllWordy ts
-AllWordy (other b ∷ ts) = AllWordy ts
+-- where the token is a word, it has only bytes of words
+abbrev pub WordyToken : Token → Type 0
+WordyToken (word w) = Wordy w
+WordyToken (mark b) = Unit {0}
+WordyToken (other b) = Unit {0}
 
 run-wordy : (s : List ℕ) → Wordy (run wordy s)
 unfolding run
@@ -27,14 +24,14 @@ run-wordy (b ∷ s) = go (wordy b) refl (run-wordy s)
     go true e ih = (e, ih)
     go false e ih = tt
 
-pub tokens-wordy : (i : Bool) (s : List ℕ) → AllWordy (tokensFrom i s)
+pub tokens-wordy : (i : Bool) (s : List ℕ) → All WordyToken (tokensFrom i s)
 unfolding tokensFrom
 tokens-wordy i [] = tt
 tokens-wordy i (b ∷ s) = go (wordy b) refl (spacey b) (marky b) i (tokens-wordy (wordy b) s)
   where
-    go : (q : Bool) → wordy b ≡ q → (sp mk j : Bool) → AllWordy (tokensFrom (wordy b) s) → AllWordy (tokenAt q sp mk j b (run wordy s) (tokensFrom (wordy b) s))
+    go : (q : Bool) → wordy b ≡ q → (sp mk j : Bool) → All WordyToken (tokensFrom (wordy b) s) → All WordyToken (tokenAt q sp mk j b (run wordy s) (tokensFrom (wordy b) s))
     go true e sp mk true h = h
     go true e sp mk false h = ((e, run-wordy s), h)
     go false e true mk j h = h
-    go false e false true j h = h
-    go false e false false j h = h
+    go false e false true j h = (tt, h)
+    go false e false false j h = (tt, h)

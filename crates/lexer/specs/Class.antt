@@ -1,9 +1,11 @@
 -- The class of a byte. Document 01, "A record".
 -- Assumes nothing.
+use mathlib.Core.Path.{_≡_}
 use Prim.Native.Nat.{ℕ}
 use mathlib.Core.Bool.{Bool, true, false, not, cond, _&&_, _||_}
 use mathlib.Core.List.{List, [], _∷_}
 use lib.Dec.{leb, eqb}
+use Rattle.common.specs.All.{All}
 
 -- b is one of lo to hi
 abbrev pub within : ℕ → ℕ → ℕ → Bool
@@ -44,3 +46,7 @@ marky b = eqb (classOf b) 5
 unfoldable pub allClassed : List ℕ → Bool
 allClassed [] = true
 allClassed (b ∷ s) = not (eqb (classOf b) 0) && allClassed s
+
+-- a word has only bytes of words
+abbrev pub Wordy : List ℕ → Type 0
+Wordy w = All (λ b. wordy b ≡ true) w

@@ -2,7 +2,7 @@
 -- Assumes nothing.
 use mathlib.Core.Path.{_≡_}
 use Prim.Native.Nat.{ℕ, _-_, _<_}
-use mathlib.Core.Bool.{Bool, true, false}
+use mathlib.Core.Bool.{Bool, true, false, cond}
 use mathlib.Core.List.{List, [], _∷_}
 use lib.ListN.{length, drop}
 use Rattle.lexer.specs.Class.{wordy, spacey, marky}
@@ -43,7 +43,19 @@ last n s = drop (length s - n) s
 abbrev pub firstWord : List ℕ → List ℕ
 firstWord s = run wordy (after spacey s)
 
--- what `next` answers: the first token, and how many bytes are left after it
+-- the first token of a text that begins with no space, and how many bytes are left after it: a mark, by "Each class 5 byte is a token of its own"; a
+-- word, by "a longest run of classes 2, 3 and 4"; or a byte that stands in no token
+abbrev pub lexemeAt : List ℕ → Lexeme
+lexemeAt [] = End
+lexemeAt (b ∷ s) =
+    cond (marky b) (Mark b (length s))
+    (cond (wordy b) (Word (kindOf (run wordy (b ∷ s))) (length (after wordy (b ∷ s)))) (Other b (length s)))
+
+-- what `next` answers: the same after the spaces in front, by "Any number of spaces may stand between tokens and at either end"
+unfoldable pub lexemeOf : List ℕ → Lexeme
+lexemeOf s = lexemeAt (after spacey s)
+
+-- what the lexeme in front of a text tells of the text's tokens: proved of `lexemeOf` by the law `next-means`
 unfoldable pub Next : List ℕ → Lexeme → Type 0
 Next s End = tokens s ≡ []
 Next s (Word k n) = (n < length s) × ((w : List ℕ) × (kindOf w ≡ k) × (tokens s ≡ word w ∷ tokens (last n s)) × (firstWord s ≡ w))

@@ -5,6 +5,7 @@ use mathlib.Core.Bool.{Bool, true, false, cond, _&&_}
 use mathlib.Core.List.{List, [], _∷_}
 use lib.Dec.{eqb}
 use lib.ListN.{length, getD}
+use Rattle.common.specs.Limits.{nameSize}
 use Rattle.lexer.specs.Class.{classOf, within}
 
 -- whether two lists are the same
@@ -100,7 +101,7 @@ zeroK = 12
 
 -- "a word of 1 to 8 bytes that begins with a letter"
 unfoldable pub nameLike : List ℕ → Bool
-nameLike w = within 1 8 (length w) && eqb (classOf (getD w 0 0)) 2
+nameLike w = within 1 nameSize (length w) && eqb (classOf (getD w 0 0)) 2
 
 -- a word of one digit: 48 is the digit 0
 unfoldable pub digitKind : List ℕ → ℕ

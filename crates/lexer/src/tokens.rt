@@ -4,7 +4,7 @@ use crate::words::skip;
 use crate::words::word;
 use crate::words::word_kind;
 ghost use mathlib.Core.Path.{_≡_};
-ghost use Rattle.lexer.specs.Tokens.{Next, last};
+ghost use Rattle.lexer.specs.Tokens.{lexemeOf, last};
 
 // The first token of a text, with the number of bytes that are left after it: a word by its kind, a mark (a class 5 byte), or a byte that
 // stands in no token.
@@ -28,7 +28,7 @@ pub fn rest(s: &[u8], n: usize) -> &[u8]
 
 // The first token, and how many bytes are left after it.
 pub fn next(s: &[u8]) -> Lexeme
-    ensures { λ r. ⌜ Next (now (s .entry)) r ⌝ }
+    ensures { λ r. ⌜ r ≡ lexemeOf (now (s .entry)) ⌝ }
 {
     let t = skip(s);
     let m = t.len();

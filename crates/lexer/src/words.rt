@@ -3,6 +3,7 @@ use crate::classes::CLASSES;
 use crate::classes::class_in;
 use crate::classes::class_of;
 use crate::classes::in_words;
+use common::sizes::NAME_SIZE;
 ghost use mathlib.Core.Path.{_≡_};
 ghost use lib.ListN.{length};
 ghost use Rattle.lexer.specs.Class.{wordy, spacey};
@@ -118,7 +119,7 @@ fn name_like(w: &[u8]) -> bool
     if n == 0 {
         return false;
     }
-    if 8 < n {
+    if NAME_SIZE < n {
         return false;
     }
     class_of(w[0]) == 2

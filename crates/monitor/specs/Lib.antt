@@ -2,3 +2,4 @@ pub mod Answers
 pub mod Outcomes
 pub mod Handled
 pub mod Sessions
+pub mod Marks

@@ -1,5 +1,5 @@
 // The replies to refusals and lines, written into the lent buffer where it has 50 bytes.
-use reply::Kind;
+use columns::ReplyKind;
 use reply::plain;
 ghost use mathlib.Core.Path.{_≡_};
 ghost use Rattle.names.specs.Name.{packed};
@@ -19,7 +19,7 @@ pub fn refused(reply: &mut [u8], number: u8) -> bool
     ensures { λ r. ⌜ Written (now (reply .entry)) (refusedReply number) (now (reply .exit)) r ⌝ }
 {
     let name = dash();
-    plain(reply, Kind::Refused, number, name)
+    plain(reply, ReplyKind::Refused, number, name)
 }
 
 // The reply to a line: the name that it declared, or its refusal.
@@ -27,7 +27,7 @@ pub fn line_reply(reply: &mut [u8], number: u8, name: u64) -> bool
     ensures { λ r. ⌜ Written (now (reply .entry)) (lineReply number name) (now (reply .exit)) r ⌝ }
 {
     if number == 0 {
-        return plain(reply, Kind::Declared, 0, name);
+        return plain(reply, ReplyKind::Declared, 0, name);
     }
     refused(reply, number)
 }

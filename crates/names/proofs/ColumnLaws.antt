@@ -2,7 +2,7 @@
 -- Assumes nothing.
 use mathlib.Core.Path.{_≡_, refl, sym, ap, _∙_}
 use mathlib.Core.List.{List, [], _∷_}
-use Prim.Native.Nat.{ℕ, zero, suc, _^_, _<_}
+use Prim.Native.Nat.{ℕ, zero, suc, _<_}
 use native.Mathlib.Omega.{arith}
 use lib.ListN.{length, getD, List·getD-eq-default}
 use lib.Seq.{ext-getD}
@@ -19,11 +19,6 @@ module _ (w : List ℕ) (h : Bytes w) where
   -- the eight columns are bytes, as one fact
   eight : (columnOf w 0 < 256) × (columnOf w 1 < 256) × (columnOf w 2 < 256) × (columnOf w 3 < 256) × (columnOf w 4 < 256) × (columnOf w 5 < 256) × (columnOf w 6 < 256) × (columnOf w 7 < 256)
   eight = (h .byte 0, h .byte 1, h .byte 2, h .byte 3, h .byte 4, h .byte 5, h .byte 6, h .byte 7)
-
-  -- a packed name is a number of 64 bits
-  pub packed-fits : packed w < 2 ^ 64
-  unfolding packed
-  packed-fits = omega (arith, eight)
 
   -- what is printed is the name, padded with spaces
   pub column-packed : (i : ℕ) → i < 8 → columnAt (packed w) i ≡ columnOf w i

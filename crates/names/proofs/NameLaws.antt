@@ -10,9 +10,9 @@ use lib.ListN.{length, getD}
 use borrow.Author.Tests.{eqb-true, eqb-false, leb-true}
 use Rattle.lexer.specs.Class.{classOf, wordy, within, among, marks}
 use Rattle.lexer.specs.Words.{kindOf, nameLike, digitKind, nameK, reserved}
-use Rattle.lexer.proofs.Bools.{and-left, and-right}
+use Rattle.common.proofs.Bools.{and-left, and-right}
 use Rattle.lexer.proofs.KindLaws.{place-low}
-use Rattle.lexer.proofs.WordLaws.{Wordy}
+use Rattle.lexer.specs.Class.{Wordy}
 use Rattle.names.specs.Name.{columnOf, packed}
 use Rattle.names.specs.Shape.{Packable, NameShape}
 use Rattle.names.proofs.ColumnLaws.{packed-same}

@@ -11,8 +11,7 @@ use lib.ListN.{length, getD}
 use borrow.Author.Tests.{eqb-true, eqb-false, eq-eqb, ne-eqb, lt-ltb, le-ltb}
 use Rattle.lexer.specs.Class.{among}
 use Rattle.lexer.specs.Run.{run}
-use Rattle.names.specs.Name.{packed}
-use Rattle.names.specs.Place.{differs, place, held}
+use Rattle.names.specs.Place.{differs, place}
 
 module _ (x : ℕ) where
   -- one step along the list
@@ -54,7 +53,3 @@ module _ (x : ℕ) where
       go : (b : Bool) → eqb n x ≡ b → ltb (place x ns) (length ns) ≡ among x ns → ltb (place x (n ∷ ns)) (suc (length ns)) ≡ eqb x n || among x ns
       go true e ih = let p = eqb-true n x e in rw (place-here n ns p, eq-eqb x n (sym p)) (lt-ltb 0 (suc (length ns)) (omega arith))
       go false e ih = let p = eqb-false n x e in rw (place-later n ns p, compare·suc-suc, ne-eqb x n (λ q. p (sym q))) ih
-
--- "a name is among those held", said of the entries one by one
-pub held-among : (ns w : List ℕ) → held ns w ≡ among (packed w) ns
-held-among ns w = place-among (packed w) ns

@@ -10,10 +10,10 @@ use borrow.Author.Tests.{ne-eqb}
 use Rattle.lexer.specs.Run.{run}
 use Rattle.lexer.specs.Words.{kindOf, nameK}
 use Rattle.lexer.proofs.RunLaws.{run-length}
-use Rattle.lexer.proofs.WordLaws.{Wordy}
+use Rattle.lexer.specs.Class.{Wordy}
 use Rattle.names.specs.Name.{columnOf, packed, columnAt}
 use Rattle.names.specs.Shape.{Packable}
-use Rattle.names.specs.Unpacked.{inked, columnsOf, unpacked}
+use Rattle.names.specs.Unpacked.{notSpace, columnsOf, unpacked}
 use Rattle.names.proofs.ColumnLaws.{column-packed}
 use Rattle.names.proofs.NameLaws.{name-packable}
 
@@ -32,7 +32,7 @@ column-among n (suc (suc (suc (suc (suc (suc (suc (suc i)))))))) h = absurd (ome
 -- a packed name has at most eight bytes, whatever number it is
 pub unpacked-length : (n : ℕ) → length (unpacked n) ≤ 8
 unfolding unpacked
-unpacked-length n = run-length inked (columnsOf n)
+unpacked-length n = run-length notSpace (columnsOf n)
 
 -- the first k columns of a word
 columns : ℕ → List ℕ → List ℕ
@@ -41,13 +41,13 @@ columns (suc k) [] = 32 ∷ columns k []
 columns (suc k) (b ∷ w) = b ∷ columns k w
 
 -- the run up to a space is the word
-run-columns : (k : ℕ) (w : List ℕ) → length w ≤ k → ((i : ℕ) → i < length w → getD w i 32 ≡ 32 → ⊥) → run inked (columns k w) ≡ w
-unfolding columns run inked
+run-columns : (k : ℕ) (w : List ℕ) → length w ≤ k → ((i : ℕ) → i < length w → getD w i 32 ≡ 32 → ⊥) → run notSpace (columns k w) ≡ w
+unfolding columns run notSpace
 run-columns zero [] l h = refl
 run-columns zero (b ∷ w) l h = absurd (omega arith)
 run-columns (suc k) [] l h = refl
 run-columns (suc k) (b ∷ w) l h =
-    ap (λ (q : Bool). cond (not q) (b ∷ run inked (columns k w)) []) (ne-eqb b 32 (h 0 (omega arith)))
+    ap (λ (q : Bool). cond (not q) (b ∷ run notSpace (columns k w)) []) (ne-eqb b 32 (h 0 (omega arith)))
     ∙ ap (λ (v : List ℕ). b ∷ v) (run-columns k w (omega arith) (λ i m. h (suc i) (omega arith)))
 
 eight-columns : (w : List ℕ) → columnOf w 0 ∷ columnOf w 1 ∷ columnOf w 2 ∷ columnOf w 3 ∷ columnOf w 4 ∷ columnOf w 5 ∷ columnOf w 6 ∷ columnOf w 7 ∷ [] ≡ columns 8 w
@@ -79,7 +79,7 @@ module _ (w : List ℕ) (h : Packable w) where
   -- what is read from a packed name is the name
   pub unpacked-packed : unpacked (packed w) ≡ w
   unfolding unpacked columnOf
-  unpacked-packed = ap (run inked) columns-packed ∙ run-columns 8 w (h .short) (h .spaceless)
+  unpacked-packed = ap (run notSpace) columns-packed ∙ run-columns 8 w (h .short) (h .spaceless)
 
 -- "A name is a word of 1 to 8 bytes": its bytes are read back whole
 pub unpacked-name : (w : List ℕ) → kindOf w ≡ nameK → Wordy w → unpacked (packed w) ≡ w
@@ -91,5 +91,5 @@ unfolding packed columnOf
 dash-packed = refl
 
 pub dash-unpacked : unpacked 3251634253311516704 ≡ 45 ∷ []
-unfolding unpacked inked run columnAt
+unfolding unpacked notSpace run columnAt
 dash-unpacked = refl

@@ -8,8 +8,8 @@ use Rattle.lexer.specs.Run.{run}
 use Rattle.names.specs.Name.{columnAt}
 
 -- no space
-unfoldable pub inked : ℕ → Bool
-inked b = not (eqb b 32)
+unfoldable pub notSpace : ℕ → Bool
+notSpace b = not (eqb b 32)
 
 -- the eight columns of a packed name
 abbrev pub columnsOf : ℕ → List ℕ
@@ -17,4 +17,4 @@ columnsOf n = columnAt n 0 ∷ columnAt n 1 ∷ columnAt n 2 ∷ columnAt n 3 �
 
 -- a packed name without the spaces after it
 unfoldable pub unpacked : ℕ → List ℕ
-unpacked n = run inked (columnsOf n)
+unpacked n = run notSpace (columnsOf n)

@@ -4,7 +4,7 @@ use mathlib.Core.Path.{_≡_}
 use mathlib.Core.Bool.{Bool, true, false}
 use mathlib.Core.List.{List}
 use Prim.Native.Nat.{ℕ}
-use Rattle.lexer.proofs.Bools.{true-not-false}
+use Rattle.common.proofs.Bools.{true-not-false}
 use Rattle.patterns.specs.Judged.{TermRead, ConditionRead, PatternRead, JudgeRead}
 use Rattle.patterns.specs.declared.judge.Judged.{Judged}
 

@@ -2,23 +2,16 @@
 -- Assumes nothing.
 use mathlib.Core.Path.{_≡_, refl, ap, ap₂}
 use mathlib.Core.Bool.{Bool, true, false, not, _&&_, _||_}
-use mathlib.Core.List.{List, [], _∷_, _++_, map}
+use mathlib.Core.List.{List, [], _∷_, map}
 use Rattle.grammar.specs.Trees.{Item, exact, below, Items, close, starClose, item, Simple, anyEvent, items, Condition, term, or, Term, negate, simple, inside, Pattern, plain, bracketed}
 use Rattle.grammar.specs.Rename.{mapItem, mapItems, mapSimple, mapCondition, mapTerm, mapPattern}
 use Rattle.grammar.specs.Names.{itemsNames, simpleNames, conditionNames, termNames, patternNames}
-use Rattle.lexer.proofs.Bools.{and-left, and-right}
-use Rattle.patterns.specs.All.{All}
+use Rattle.common.proofs.Bools.{and-left, and-right}
+use Rattle.common.specs.All.{All}
+use Rattle.common.proofs.AllLaws.{all-of, all-left, all-right}
 use Rattle.patterns.specs.Roles.{Role, Roles, isHeld, allHeld}
 use Rattle.patterns.specs.Meets.{Order, orderOf, itemMeets, itemsMeet, simpleMeets, termMeets, conditionMeets, meets}
 use Rattle.patterns.proofs.RoleLaws.{Lawful, below-later}
-
-pub all-left : {A : Type 0} (P : A → Type 0) (k l : List A) → All P (k ++ l) → All P k
-all-left P [] l h = tt
-all-left P (a ∷ k) l h = (h .0, all-left P k l (h .1))
-
-pub all-right : {A : Type 0} (P : A → Type 0) (k l : List A) → All P (k ++ l) → All P l
-all-right P [] l h = h
-all-right P (a ∷ k) l h = all-right P k l (h .1)
 
 -- Other names: an event meets a pattern by the tests on the names that stand for theirs.
 module _ {M N : Type 0} (f : M → N) (o : Order N) where
@@ -96,11 +89,6 @@ module _ {N : Type 0} (o o′ : Order N) (E P : N → Type 0)
     meets-agree (plain p) k = simple-agree p k
     meets-agree (bracketed c) k = condition-agree c k
 
--- nothing is asked of any element
-pub any-all : {A : Type 0} (l : List A) → All (λ a. Unit {0}) l
-any-all [] = tt
-any-all (a ∷ l) = (tt, any-all l)
-
 -- A later role alters `meets` for no event of roles held before.
 module _ {N : Type 0} (eq : N → N → Bool) (lawful : Lawful eq) (r : Role N) (rs : Roles N) (new : isHeld eq rs (r .name) ≡ false) where
   abbrev Was : N → Type 0
@@ -113,4 +101,4 @@ module _ {N : Type 0} (eq : N → N → Bool) (lawful : Lawful eq) (r : Role N) 
   pub meets-later : (e : List N) → allHeld eq rs e ≡ true → (p : Pattern N) → meets (orderOf eq (r ∷ rs)) e p ≡ meets (orderOf eq rs) e p
   meets-later e h p =
       meets-agree (orderOf eq (r ∷ rs)) (orderOf eq rs) Was (λ n. Unit {0}) (λ a b k u. refl) (λ a b k u. below-later eq lawful r rs new a b k)
-      e (held-all e h) p (any-all (patternNames p))
+      e (held-all e h) p (all-of (λ n. Unit {0}) (λ n. tt) (patternNames p))

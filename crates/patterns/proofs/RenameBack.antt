@@ -5,8 +5,8 @@ use mathlib.Core.List.{[], _∷_}
 use Rattle.grammar.specs.Trees.{exact, below, Items, close, starClose, item, Simple, anyEvent, items, Condition, term, or, Term, negate, simple, inside, Pattern, plain, bracketed, Past, only, either, Sequence, single, beside, Factor, starred, Base, pattern, nothing, group, Template, named, place, Response, pass, hold, send, anew}
 use Rattle.grammar.specs.Rename.{mapItem, mapItems, mapSimple, mapCondition, mapTerm, mapPattern, mapPast, mapSequence, mapFactor, mapBase, mapSlots, mapResponse}
 use Rattle.grammar.specs.Names.{itemsNames, simpleNames, conditionNames, termNames, patternNames, pastNames, sequenceNames, factorNames, baseNames, slotsNames, responseNames}
-use Rattle.patterns.specs.All.{All}
-use Rattle.patterns.proofs.MeetsLaws.{all-left, all-right}
+use Rattle.common.specs.All.{All}
+use Rattle.common.proofs.AllLaws.{all-left, all-right}
 
 module _ {M N : Type 0} (f : M → N) (g : N → M) where
   abbrev pub Back : M → Type 0

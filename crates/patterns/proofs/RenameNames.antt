@@ -1,15 +1,11 @@
 -- The names of a tree with other names are the other names of its names: what holds of all names as read holds of all ids, and so on.
 -- Assumes nothing.
-use mathlib.Core.List.{List, [], _∷_, _++_}
+use mathlib.Core.List.{[], _∷_}
 use Rattle.grammar.specs.Trees.{exact, below, Items, close, starClose, item, Simple, anyEvent, items, Condition, term, or, Term, negate, simple, inside, Pattern, plain, bracketed, Past, only, either, Sequence, single, beside, Factor, starred, Base, pattern, nothing, group, Template, named, place, Response, pass, hold, send, anew}
 use Rattle.grammar.specs.Rename.{mapItem, mapItems, mapSimple, mapCondition, mapTerm, mapPattern, mapPast, mapSequence, mapFactor, mapBase, mapSlots, mapResponse}
 use Rattle.grammar.specs.Names.{itemsNames, simpleNames, conditionNames, termNames, patternNames, pastNames, sequenceNames, factorNames, baseNames, slotsNames, responseNames}
-use Rattle.patterns.specs.All.{All}
-use Rattle.patterns.proofs.MeetsLaws.{all-left, all-right}
-
-pub all-join : {A : Type 0} (P : A → Type 0) (k l : List A) → All P k → All P l → All P (k ++ l)
-all-join P [] l h g = g
-all-join P (a ∷ k) l h g = (h .0, all-join P k l (h .1) g)
+use Rattle.common.specs.All.{All}
+use Rattle.common.proofs.AllLaws.{all-append, all-left, all-right}
 
 module _ {M N : Type 0} (f : M → N) (P : M → Type 0) (Q : N → Type 0) (one : (w : M) → P w → Q (f w)) where
   items-all : (is : Items M) → All P (itemsNames is) → All Q (itemsNames (mapItems f is))
@@ -30,7 +26,7 @@ module _ {M N : Type 0} (f : M → N) (P : M → Type 0) (Q : N → Type 0) (one
     condition-all : (c : Condition M) → All P (conditionNames c) → All Q (conditionNames (mapCondition f c))
     condition-all (term t) h = term-all t h
     condition-all (or t c) h =
-        all-join Q (termNames (mapTerm f t)) (conditionNames (mapCondition f c)) (term-all t (all-left P (termNames t) (conditionNames c) h)) (condition-all c (all-right P (termNames t) (conditionNames c) h))
+        all-append Q (termNames (mapTerm f t)) (conditionNames (mapCondition f c)) (term-all t (all-left P (termNames t) (conditionNames c) h)) (condition-all c (all-right P (termNames t) (conditionNames c) h))
 
     term-all : (t : Term M) → All P (termNames t) → All Q (termNames (mapTerm f t))
     term-all (negate t) h = term-all t h
@@ -47,11 +43,11 @@ module _ {M N : Type 0} (f : M → N) (P : M → Type 0) (Q : N → Type 0) (one
 
     pub past-all : (p : Past M) → All P (pastNames p) → All Q (pastNames (mapPast f p))
     past-all (only q) h = sequence-all q h
-    past-all (either q p) h = all-join Q (sequenceNames (mapSequence f q)) (pastNames (mapPast f p)) (sequence-all q (all-left P (sequenceNames q) (pastNames p) h)) (past-all p (all-right P (sequenceNames q) (pastNames p) h))
+    past-all (either q p) h = all-append Q (sequenceNames (mapSequence f q)) (pastNames (mapPast f p)) (sequence-all q (all-left P (sequenceNames q) (pastNames p) h)) (past-all p (all-right P (sequenceNames q) (pastNames p) h))
 
     sequence-all : (q : Sequence M) → All P (sequenceNames q) → All Q (sequenceNames (mapSequence f q))
     sequence-all (single c) h = factor-all c h
-    sequence-all (beside c q) h = all-join Q (factorNames (mapFactor f c)) (sequenceNames (mapSequence f q)) (factor-all c (all-left P (factorNames c) (sequenceNames q) h)) (sequence-all q (all-right P (factorNames c) (sequenceNames q) h))
+    sequence-all (beside c q) h = all-append Q (factorNames (mapFactor f c)) (sequenceNames (mapSequence f q)) (factor-all c (all-left P (factorNames c) (sequenceNames q) h)) (sequence-all q (all-right P (factorNames c) (sequenceNames q) h))
 
     factor-all : (c : Factor M) → All P (factorNames c) → All Q (factorNames (mapFactor f c))
     factor-all (starred b n) h = base-all b h

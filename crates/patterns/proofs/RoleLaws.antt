@@ -4,7 +4,7 @@ use mathlib.Core.Path.{_≡_, refl, sym, ap, _∙_, subst}
 use mathlib.Core.Bool.{Bool, true, false, cond, _||_}
 use mathlib.Core.Logic.{_↔_, ⊎-elim}
 use mathlib.Core.List.{[], _∷_}
-use Rattle.lexer.proofs.Bools.{or-left, or-right, or-cases, not-true, true-not-false}
+use Rattle.common.proofs.Bools.{or-left, or-right, or-cases, not-true, true-not-false}
 use Rattle.patterns.specs.Roles.{Role, Roles, Has, has-first, has-later, Below, below-itself, below-parent, isHeld, isBelow, Grown, grown-fresh, grown-more}
 
 -- equal names compare equal, and only they

@@ -5,14 +5,15 @@ use mathlib.Core.Bool.{Bool, true, false, cond, _||_}
 use mathlib.Core.Logic.{_⊎_, inl, inr, ⊎-elim}
 use mathlib.Core.List.{List, map}
 use Prim.Native.Nat.{ℕ, zero, suc, _+_, _≤_, _<_}
+use native.Mathlib.Nat.{eq-or-lt-of-le}
 use native.Mathlib.Omega.{arith}
-use lib.Dec.{eqb, ltb}
+use lib.Dec.{eqb}
 use lib.ListN.{getD}
-use borrow.Author.Tests.{eqb-true, eqb-false, eq-eqb, ne-eqb, ltb-true, ltb-false}
+use borrow.Author.Tests.{eqb-true, eqb-false, eq-eqb, ne-eqb}
 use Rattle.grammar.specs.Trees.{Pattern}
 use Rattle.grammar.specs.Rename.{mapPattern}
 use Rattle.grammar.specs.Names.{patternNames}
-use Rattle.patterns.specs.All.{All}
+use Rattle.common.specs.All.{All}
 use Rattle.patterns.specs.Roles.{isBelow}
 use Rattle.patterns.specs.Table.{belowIn, Ordered, rolesOf}
 use Rattle.patterns.specs.Meets.{orderOf, meets}
@@ -23,11 +24,7 @@ use Rattle.patterns.proofs.MeetsLaws.{through, meets-map, meets-agree}
 
 -- an id is the last one, or stands before it
 pub split : (i n : ℕ) → i < n + 1 → (i < n) ⊎ (i ≡ n)
-split i n h = go (ltb i n) refl
-  where
-    go : (q : Bool) → ltb i n ≡ q → (i < n) ⊎ (i ≡ n)
-    go true e = inl (ltb-true i n e)
-    go false e = let k = ltb-false i n e in inr (omega arith)
+split i n h = ⊎-elim (λ e. inr e) (λ l. inl l) (eq-or-lt-of-le {n = i} {m = n} (omega arith))
 
 -- a table of `count` roles in order, with distinct names
 module _ {N : Type 0} (eq : N → N → Bool) (nm : ℕ → N) (ps : List ℕ) (count : ℕ) (o : Ordered count ps)

@@ -1,4 +1,3 @@
-pub mod All
 pub mod Roles
 pub mod Table
 pub mod Meets

@@ -3,6 +3,7 @@
 use mathlib.Core.Path.{_≡_}
 use mathlib.Core.Bool.{Bool, true, false, cond, _&&_, _||_}
 use mathlib.Core.List.{List, [], _∷_}
+use Prim.Native.Nat.{ℕ}
 
 -- "a name, under, a name (its parent)"
 pub record Role (N : Type 0) : Type 0 where
@@ -12,6 +13,10 @@ pub record Role (N : Type 0) : Type 0 where
 -- the roles held, the last declared first
 abbrev pub Roles : Type 0 → Type 0
 Roles N = List (Role N)
+
+-- the name `top`, as bytes
+abbrev pub topName : List ℕ
+topName = 116 ∷ 111 ∷ 112 ∷ []
 
 -- "`top` is declared from the start": it stands above itself alone
 abbrev pub freshRoles : {N : Type 0} → N → Roles N

@@ -1,26 +1,14 @@
 // Patterns judged over their code.
 use crate::roles::below;
+use common::both;
+use common::either;
 ghost use mathlib.Core.Path.{_≡_};
-ghost use mathlib.Core.Bool.{_&&_, _||_};
 ghost use Rattle.patterns.specs.Judged.{onward, roleAt, bothOf, eitherOf, notOf, bracketedOf, ItemsRead, JudgeRead, PatternRead};
 
 // Where a spelling ends, and whether the event meets what it spells.
 pub struct Judged {
     pub end: usize,
     pub ok: bool,
-}
-
-// Two functions for `&&` and `||`: a branch would lose what each side showed.
-pub fn both(a: bool, b: bool) -> bool
-    ensures { λ r. ⌜ r ≡ (a && b) ⌝ }
-{
-    if a { b } else { false }
-}
-
-pub fn either(a: bool, b: bool) -> bool
-    ensures { λ r. ⌜ r ≡ (a || b) ⌝ }
-{
-    if a { true } else { b }
 }
 
 // What the rest of some items says, where the item before it says ok.

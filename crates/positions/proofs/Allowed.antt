@@ -5,13 +5,19 @@ use mathlib.Core.List.{List, [], _∷_, _++_, append-assoc, append-nil}
 use mathlib.Core.Logic.{_⊎_, inl, inr, ⊎-elim}
 use Prim.Native.Nat.{ℕ, suc, _+_, _≤_, _<_}
 use native.Mathlib.Omega.{arith}
+use Rattle.common.specs.All.{All}
+use Rattle.common.proofs.AllLaws.{all-append, all-map, all-at}
 use Rattle.positions.specs.Past.{Past, pat, empty, seq, alt, star}
-use Rattle.positions.proofs.Lists.{All, all-none, all-more, all-append, all-map, all-at, cut-first, cut-at, no-end, cons-tail, nil-cut}
+use Rattle.positions.proofs.Lists.{cut-first, cut-at, no-end, cons-tail, nil-cut}
 use Rattle.positions.specs.Numbers.{size, Allows, allow-pat, allow-empty, allow-seq, allow-left, allow-right, allow-stop, allow-more, Nullable, Begins, Ends, Before}
 
 -- k is one of the n numbers after i
 abbrev pub Within : ℕ → ℕ → ℕ → Type 0
 Within i n k = (i < k) × (k ≤ i + n)
+
+-- and so one of more numbers around them
+wider : (i n j m : ℕ) → j ≤ i → i + n ≤ j + m → (w : List ℕ) → All (Within i n) w → All (Within j m) w
+wider i n j m p q w h = all-map (Within i n) (Within j m) (λ k b. omega arith) w h
 
 module _ {P : Type 0} where
   -- a list of a sequence, cut in two. (`allow-seq` itself is matched only at a list that is a variable.)
@@ -20,16 +26,19 @@ module _ {P : Type 0} where
 
   -- an allowed list has numbers of the past only
   pub within : {φ : Past P} {i : ℕ} {w : List ℕ} → Allows φ i w → All (Within i (size φ)) w
-  within (allow-pat {i = i}) = all-more {b = suc i} (omega arith) all-none
-  within allow-empty = all-none
-  within (allow-seq s t) = (all-append (all-map (λ k h. omega arith) (within s)) (all-map (λ k h. omega arith) (within t)))
-  within (allow-left s) = all-map (λ k h. omega arith) (within s)
-  within (allow-right t) = all-map (λ k h. omega arith) (within t)
-  within allow-stop = all-none
-  within (allow-more s t) = (all-append (within s) (within t))
+  within (allow-pat {i = i}) = ((omega arith, omega arith), tt)
+  within allow-empty = tt
+  within (allow-seq {φ = φ} {ψ = ψ} {i = i} {v = v} {w = w} s t) =
+      all-append (Within i (size φ + size ψ)) v w
+      (wider i (size φ) i (size φ + size ψ) (omega arith) (omega arith) v (within s))
+      (wider (i + size φ) (size ψ) i (size φ + size ψ) (omega arith) (omega arith) w (within t))
+  within (allow-left {φ = φ} {ψ = ψ} {i = i} {w = w} s) = wider i (size φ) i (size φ + size ψ) (omega arith) (omega arith) w (within s)
+  within (allow-right {φ = φ} {ψ = ψ} {i = i} {w = w} t) = wider (i + size φ) (size ψ) i (size φ + size ψ) (omega arith) (omega arith) w (within t)
+  within allow-stop = tt
+  within (allow-more {φ = φ} {i = i} {v = v} {w = w} s t) = all-append (Within i (size φ)) v w (within s) (within t)
 
   pub within-at : {φ : Past P} {i : ℕ} (w : List ℕ) (k : ℕ) (v : List ℕ) → Allows φ i (w ++ k ∷ v) → Within i (size φ) k
-  within-at w k v h = all-at w k v (within h)
+  within-at {φ} {i} w k v h = all-at (Within i (size φ)) w k v (within h)
 
   pub within-second : {φ : Past P} {i j k : ℕ} → Before φ i j k → Within i (size φ) k
   within-second {φ} {j} {k} r = within-at {φ = φ} (r .0 ++ j ∷ []) k (r .1) (rw append-assoc (r .2))

@@ -3,20 +3,18 @@
 use mathlib.Core.Path.{_≡_, refl}
 use mathlib.Core.Bool.{Bool, true, false}
 use mathlib.Core.Logic.{_↔_, inl, inr, ⊎-elim, Iff·trans, Iff·symm}
-use mathlib.Core.List.{[]}
-use Prim.Native.Nat.{ℕ, _≤_}
-use native.Mathlib.Omega.{arith}
+use Prim.Native.Nat.{ℕ}
 use borrow.Author.Tests.{eqb-true, eq-eqb}
 use Rattle.positions.specs.Past.{Past}
 use Rattle.positions.specs.Numbers.{size}
 use Rattle.positions.specs.Positions.{Positions, MayEnd, Follows, Matched}
-use Rattle.positions.specs.Walk.{Summary, walk, positionsBy, matchedBy, endsBy, step, matchesNow, ends}
-use Rattle.positions.proofs.Bools.{and-both, and-left, and-right, or-left, or-right, or-cases, not-true, same-test}
-use Rattle.positions.proofs.Allowed.{Within, within-at}
+use Rattle.positions.specs.Walk.{SetSummary, walk, positionsBy, matchedBy, endsBy, step, matchesNow, ends}
+use Rattle.common.proofs.Bools.{and-both, and-left, and-right, or-left, or-right, or-cases, same-test}
+use Rattle.positions.proofs.Allowed.{Within}
 use Rattle.positions.proofs.WalkLaws.{Says, walk-says, metAt-within}
 
 -- What follows from a summary s of the whole past that says what the positions m say.
-module _ {P : Type 0} (t : P → Bool) (m : Positions) (φ : Past P) (s : Summary) (p : Says t m φ 0 s) where
+module _ {P : Type 0} (t : P → Bool) (m : Positions) (φ : Past P) (s : SetSummary) (p : Says t m φ 0 s) where
   positions-by : (k : ℕ) → (positionsBy (m 0) s k ≡ true) ↔ Follows φ m t k
   positions-by k = (
     λ e. ⊎-elim
@@ -32,12 +30,12 @@ module _ {P : Type 0} (t : P → Bool) (m : Positions) (φ : Past P) (s : Summar
   matched-by : (matchedBy (m 0) s ≡ true) ↔ Matched φ m
   matched-by = (
     λ e. ⊎-elim
-        (λ h. let r = p .final-iff .0 h in (r .0, r .1, inl (r .2)))
+        (λ h. let r = p .ending-iff .0 h in (r .0, r .1, inl (r .2)))
         (λ h. (0, and-left (m 0) _ h, inr (refl, p .nullable-iff .0 (and-right (m 0) _ h))))
-        (or-cases (s .final) _ e),
+        (or-cases (s .ending) _ e),
     λ r. ⊎-elim
-        (λ b. or-left (s .final) _ (p .final-iff .1 (r .0, r .1, b)))
-        (λ b. or-right (s .final) _ (and-both (rw (b .0) at (r .1)) (p .nullable-iff .1 (b .1))))
+        (λ b. or-left (s .ending) _ (p .ending-iff .1 (r .0, r .1, b)))
+        (λ b. or-right (s .ending) _ (and-both (rw (b .0) at (r .1)) (p .nullable-iff .1 (b .1))))
         (r .2),
   )
 
@@ -78,10 +76,3 @@ module _ {P : Type 0} (φ : Past P) where
   -- An event leads to positions of the past's patterns only: none is above the past's size, and position 0 is left.
   pub step-within : (m : Positions) (t : P → Bool) (k : ℕ) → step φ m t k ≡ true → Within 0 (size φ) k
   step-within m t k e = metAt-within t φ 0 k (step-iff m t k .0 e .0)
-
-  pub step-zero : (m : Positions) (t : P → Bool) → step φ m t 0 ≡ false
-  step-zero m t = not-true (step φ m t 0) (λ e. let w = step-within m t 0 e in omega arith)
-
-  -- The ends are positions of the past.
-  pub ends-within : (k : ℕ) → ends φ k ≡ true → k ≤ size φ
-  ends-within k e = ⊎-elim (λ b. let w = within-at (b .0) k [] (b .1) in omega arith) (λ b. let z = b .0 in omega arith) (ends-iff k .0 e)

@@ -14,9 +14,9 @@ use Rattle.positions.specs.Matcher.{matches}
 use Rattle.positions.specs.Numbers.{size, Allows, allow-pat, allow-empty, allow-seq, allow-left, allow-right, allow-stop, allow-more, Nullable, Begins, Ends, Before, metAt, Each, each-none, each-more}
 use Rattle.positions.specs.Positions.{Positions, atStart, Held, After, Follows, Matched}
 use Rattle.positions.specs.Walk.{step, steps, matchesNow}
-use Rattle.positions.proofs.Bools.{and-both, and-right, or-left, or-right, same-test}
+use Rattle.common.proofs.Bools.{and-both, and-right, or-left, or-right, same-test}
 use Rattle.positions.proofs.Lists.{each-append, each-cut, each-map, each-last, each-nil, each-no-left, no-end, last-of}
-use Rattle.positions.proofs.Allowed.{within, within-at, swap}
+use Rattle.positions.proofs.Allowed.{Within, within, within-at, swap}
 use Rattle.positions.proofs.Matching.{matches-iff}
 use Rattle.positions.proofs.WalkLaws.{metAt-left, metAt-right}
 use Rattle.positions.proofs.Following.{step-iff, matchesNow-iff}
@@ -30,9 +30,9 @@ module _ {P A : Type 0} (meets : A → P → Bool) where
   number (sat-seq {φ = φ} {ψ = ψ} s t) i =
       let x = number s i in
       let y = number t (i + size φ) in
-      (x .0 ++ y .0, allow-seq (x .1) (y .1), (each-append (each-map (λ a k b h. or-left (metAt (meets a) φ i k) _ h) (within (x .1)) (x .2)) (each-map (λ a k b h. or-right (metAt (meets a) φ i k) _ h) (within (y .1)) (y .2))))
-  number (sat-left {φ = φ} s) i = let x = number s i in (x .0, allow-left (x .1), each-map (λ a k b h. or-left (metAt (meets a) φ i k) _ h) (within (x .1)) (x .2))
-  number (sat-right {φ = φ} t) i = let y = number t (i + size φ) in (y .0, allow-right (y .1), each-map (λ a k b h. or-right (metAt (meets a) φ i k) _ h) (within (y .1)) (y .2))
+      (x .0 ++ y .0, allow-seq (x .1) (y .1), (each-append (each-map (Within i (size φ)) (λ a k b h. or-left (metAt (meets a) φ i k) _ h) (within (x .1)) (x .2)) (each-map (Within (i + size φ) (size ψ)) (λ a k b h. or-right (metAt (meets a) φ i k) _ h) (within (y .1)) (y .2))))
+  number (sat-left {φ = φ} {ψ = ψ} s) i = let x = number s i in (x .0, allow-left (x .1), each-map (Within i (size φ)) (λ a k b h. or-left (metAt (meets a) φ i k) _ h) (within (x .1)) (x .2))
+  number (sat-right {φ = φ} {ψ = ψ} t) i = let y = number t (i + size φ) in (y .0, allow-right (y .1), each-map (Within (i + size φ) (size ψ)) (λ a k b h. or-right (metAt (meets a) φ i k) _ h) (within (y .1)) (y .2))
   number sat-stop i = ([], allow-stop, each-none)
   number (sat-more s t) i =
       let x = number s i in
@@ -45,9 +45,9 @@ module _ {P A : Type 0} (meets : A → P → Bool) where
   unnumber allow-empty each-none = sat-empty
   unnumber (allow-seq {φ = φ} {ψ = ψ} {i = i} {v = v} {w = w} s t) r =
       let c = each-cut v w r in
-      rw (c .2) (sat-seq (unnumber s (each-map (λ a k b h. metAt-left (meets a) φ ψ i k b h) (within s) (c .3))) (unnumber t (each-map (λ a k b h. metAt-right (meets a) φ ψ i k b h) (within t) (c .4))))
-  unnumber (allow-left {φ = φ} {ψ = ψ} {i = i} s) r = sat-left (unnumber s (each-map (λ a k b h. metAt-left (meets a) φ ψ i k b h) (within s) r))
-  unnumber (allow-right {φ = φ} {ψ = ψ} {i = i} t) r = sat-right (unnumber t (each-map (λ a k b h. metAt-right (meets a) φ ψ i k b h) (within t) r))
+      rw (c .2) (sat-seq (unnumber s (each-map (Within i (size φ)) (λ a k b h. metAt-left (meets a) φ ψ i k b h) (within s) (c .3))) (unnumber t (each-map (Within (i + size φ) (size ψ)) (λ a k b h. metAt-right (meets a) φ ψ i k b h) (within t) (c .4))))
+  unnumber (allow-left {φ = φ} {ψ = ψ} {i = i} s) r = sat-left (unnumber s (each-map (Within i (size φ)) (λ a k b h. metAt-left (meets a) φ ψ i k b h) (within s) r))
+  unnumber (allow-right {φ = φ} {ψ = ψ} {i = i} t) r = sat-right (unnumber t (each-map (Within (i + size φ) (size ψ)) (λ a k b h. metAt-right (meets a) φ ψ i k b h) (within t) r))
   unnumber allow-stop each-none = sat-stop
   unnumber (allow-more {v = v} {w = w} s t) r = let c = each-cut v w r in rw (c .2) (sat-more (unnumber s (c .3)) (unnumber t (c .4)))
 

@@ -1,4 +1,3 @@
-pub mod Bools
 pub mod Lists
 pub mod Matching
 pub mod Allowed
@@ -7,5 +6,5 @@ pub mod NothingHeld
 pub mod WalkLaws
 pub mod Following
 pub mod History
-pub mod SumLaws
+pub mod SummaryLaws
 pub mod Right

@@ -6,12 +6,8 @@ use mathlib.Core.List.{List, [], _∷_, _++_}
 use mathlib.Core.Logic.{_⊎_, inl, inr, ⊎-elim}
 use Prim.Native.Nat.{ℕ}
 use native.Mathlib.Omega.{arith}
+use Rattle.common.specs.All.{All}
 use Rattle.positions.specs.Numbers.{Each, each-none, each-more}
-
--- `All R w`: R holds of each element of w
-pub data All {B : Type 0} (R : B → Type 0) : List B → Type 0 where
-  all-none : All R []
-  all-more : {b : B} {w : List B} → R b → All R w → All R (b ∷ w)
 
 module _ {A : Type 0} where
   pub cons-head : {a b : A} {v w : List A} → _≡_ {A = List A} (a ∷ v) (b ∷ w) → a ≡ b
@@ -50,19 +46,6 @@ module _ {A : Type 0} where
   last-of [] = inl refl
   last-of (b ∷ w) = ⊎-elim (λ e. inr ([], b, ap (λ t. b ∷ t) e)) (λ r. inr (b ∷ r .0, r .1, ap (λ t. b ∷ t) (r .2))) (last-of w)
 
-module _ {B : Type 0} where
-  pub all-append : {R : B → Type 0} {v w : List B} → All R v → All R w → All R (v ++ w)
-  all-append all-none q = q
-  all-append (all-more r p) q = all-more r (all-append p q)
-
-  pub all-map : {R S : B → Type 0} → ((b : B) → R b → S b) → {w : List B} → All R w → All S w
-  all-map f all-none = all-none
-  all-map f (all-more {b = b} r p) = all-more (f b r) (all-map f p)
-
-  pub all-at : {R : B → Type 0} (w : List B) (b : B) (v : List B) → All R (w ++ b ∷ v) → R b
-  all-at [] b v (all-more r p) = r
-  all-at (c ∷ w) b v (all-more r p) = all-at w b v p
-
 module _ {A B : Type 0} where
   pub each-append : {f : A → B → Bool} {l l′ : List A} {w w′ : List B} → Each f l w → Each f l′ w′ → Each f (l ++ l′) (w ++ w′)
   each-append each-none s = s
@@ -73,9 +56,9 @@ module _ {A B : Type 0} where
   each-cut (b ∷ w) w′ (each-more {a = a} e r) = let s = each-cut w w′ r in (a ∷ s .0, s .1, ap (λ t. a ∷ t) (s .2), each-more e (s .3), s .4)
 
   -- f gives g at the elements of the second list
-  pub each-map : {f g : A → B → Bool} {R : B → Type 0} → ((a : A) (b : B) → R b → f a b ≡ true → g a b ≡ true) → {l : List A} {w : List B} → All R w → Each f l w → Each g l w
-  each-map h all-none each-none = each-none
-  each-map h (all-more {b = b} p q) (each-more {a = a} e r) = each-more (h a b p e) (each-map h q r)
+  pub each-map : {f g : A → B → Bool} (R : B → Type 0) → ((a : A) (b : B) → R b → f a b ≡ true → g a b ≡ true) → {l : List A} {w : List B} → All R w → Each f l w → Each g l w
+  each-map R h p each-none = each-none
+  each-map R h p (each-more {a = a} {b = b} e r) = each-more (h a b (p .0) e) (each-map R h (p .1) r)
 
   pub each-no-left : {f : A → B → Bool} (w : List B) (b : B) → Each f [] (w ++ b ∷ []) → ⊥
   each-no-left [] b r = elim r [ ]

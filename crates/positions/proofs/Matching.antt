@@ -6,7 +6,7 @@ use mathlib.Core.List.{List, [], _∷_, _++_}
 use mathlib.Core.Logic.{_↔_, ⊎-elim}
 use Rattle.positions.specs.Past.{Past, pat, empty, seq, alt, star, Sat, sat-pat, sat-empty, sat-seq, sat-left, sat-right, sat-stop, sat-more}
 use Rattle.positions.specs.Matcher.{someCut, someParts, parts, matches}
-use Rattle.positions.proofs.Bools.{and-both, and-left, and-right, or-left, or-right, or-cases}
+use Rattle.common.proofs.Bools.{and-both, and-left, and-right, or-left, or-right, or-cases}
 
 -- a cut that the test found
 pub cut-sound : {A : Type 0} (f g : List A → Bool) (l : List A) → someCut f g l ≡ true → (σ : List A) × (ρ : List A) × (l ≡ σ ++ ρ) × (f σ ≡ true) × (g ρ ≡ true)

@@ -12,7 +12,7 @@ use lib.Bits.{bitOr, bitAnd, or-step, or-shr, and-step, and-shr}
 use lib.Dec.{eqb, ltb}
 use borrow.Author.Tests.{ltb-true, ltb-false, lt-ltb, eqb-true, eqb-false, ne-eqb, not-true}
 use Rattle.positions.specs.Sets.{hasAt, bitOf, onlyIf, shares}
-use Rattle.positions.proofs.Bools.{and-both, and-left, and-right}
+use Rattle.common.proofs.Bools.{and-both, and-left, and-right}
 
 -- a one moved up by less than 64 places
 pub single-shl : (k : ℕ) → k < 64 → (1 * 2 ^ k) % 2 ^ 64 ≡ 2 ^ k

@@ -11,8 +11,8 @@ use borrow.Author.Tests.{eqb-true, eq-eqb}
 use Rattle.positions.specs.Past.{Past, pat, empty, seq, alt, star}
 use Rattle.positions.specs.Numbers.{size, Allows, allow-pat, allow-empty, allow-seq, allow-left, allow-right, allow-stop, Nullable, Begins, Ends, Before, metAt}
 use Rattle.positions.specs.Positions.{Positions}
-use Rattle.positions.specs.Walk.{Summary, onPat, onEmpty, onSeq, onAlt, onStar, walk}
-use Rattle.positions.proofs.Bools.{and-both, and-left, and-right, or-left, or-right, or-cases}
+use Rattle.positions.specs.Walk.{SetSummary, onPat, onEmpty, onSeq, onAlt, onStar, walk}
+use Rattle.common.proofs.Bools.{and-both, and-left, and-right, or-left, or-right, or-cases}
 use Rattle.positions.proofs.Lists.{no-end, cons-head, cons-tail, nil-cut}
 use Rattle.positions.proofs.Allowed.{Within, seq-cut, within-at, within-second, allow-once, first-seq, first-star, begins-seq-left, begins-seq-right, last-seq, last-star, ends-seq-left, ends-seq-right, before-seq, before-star, before-seq-left, before-seq-right, before-seq-cut, before-star-again, empty-none}
 
@@ -40,9 +40,9 @@ module _ {P : Type 0} (t : P → Bool) where
   metAt-right φ ψ i k b e = ⊎-elim (λ h. let r = metAt-within φ i k h in absurd (omega arith)) (λ h. h) (or-cases (metAt t φ i k) _ e)
 
   -- The summary s says what the positions m say of the part φ.
-  pub record Says (m : Positions) (φ : Past P) (i : ℕ) (s : Summary) : Type 0 where
+  pub record Says (m : Positions) (φ : Past P) (i : ℕ) (s : SetSummary) : Type 0 where
     pub nullable-iff : (s .nullable ≡ true) ↔ Nullable φ i
-    pub final-iff : (s .final ≡ true) ↔ Ended m φ i
+    pub ending-iff : (s .ending ≡ true) ↔ Ended m φ i
     pub first-iff : (k : ℕ) → (s .first k ≡ true) ↔ (Begins φ i k × (metAt t φ i k ≡ true))
     pub moved-iff : (k : ℕ) → (s .moved k ≡ true) ↔ (Reached m φ i k × (metAt t φ i k ≡ true))
     pub last-iff : (k : ℕ) → (s .last k ≡ true) ↔ Ends φ i k
@@ -63,7 +63,7 @@ module _ {P : Type 0} (t : P → Bool) (m : Positions) where
   says-pat p i =
       record {
         nullable-iff = (λ e. absurd (false≢true e), λ h. elim h [ ]);
-        final-iff = (λ e. (suc i, e, ([], allow-pat)), λ r. rw (← pat-number (r .2 .1) (r .2 .0) (r .0) [] refl) (r .1));
+        ending-iff = (λ e. (suc i, e, ([], allow-pat)), λ r. rw (← pat-number (r .2 .1) (r .2 .0) (r .0) [] refl) (r .1));
         first-iff = λ k. (λ e. (([], rw (eqb-true k (suc i) (and-left (eqb k (suc i)) (t p) e)) allow-pat), e), λ r. r .1);
         moved-iff = λ k. (λ e. absurd (false≢true e), λ r. absurd (pat-one (r .0 .2 .2) (r .0 .2 .0) (r .0 .0) k (r .0 .2 .1) refl));
         last-iff = λ k. (λ e. ([], rw (eqb-true k (suc i) e) allow-pat), λ r. eq-eqb k (suc i) (pat-number (r .1) (r .0) k [] refl));
@@ -73,7 +73,7 @@ module _ {P : Type 0} (t : P → Bool) (m : Positions) where
   says-empty i =
       record {
         nullable-iff = (λ e. allow-empty, λ h. refl);
-        final-iff = (λ e. absurd (false≢true e), λ r. absurd (empty-none (r .2 .1) (r .2 .0) (r .0) [] refl));
+        ending-iff = (λ e. absurd (false≢true e), λ r. absurd (empty-none (r .2 .1) (r .2 .0) (r .0) [] refl));
         first-iff = λ k. (λ e. absurd (false≢true e), λ r. r .1);
         moved-iff = λ k. (λ e. absurd (false≢true e), λ r. r .1);
         last-iff = λ k. (λ e. absurd (false≢true e), λ r. absurd (empty-none (r .1) (r .0) k [] refl));
@@ -86,16 +86,16 @@ module _ {P : Type 0} (t : P → Bool) (m : Positions) where
   alt-cases (allow-left h) = inl h
   alt-cases (allow-right h) = inr h
 
-  module _ (φ ψ : Past P) (i : ℕ) (s u : Summary) (p : Says t m φ i s) (q : Says t m ψ (i + size φ) u) where
-    seq-final : ((u .final || u .nullable && s .final) ≡ true) ↔ Ended m (seq φ ψ) i
-    seq-final = (
+  module _ (φ ψ : Past P) (i : ℕ) (s u : SetSummary) (p : Says t m φ i s) (q : Says t m ψ (i + size φ) u) where
+    seq-ending : ((u .ending || u .nullable && s .ending) ≡ true) ↔ Ended m (seq φ ψ) i
+    seq-ending = (
       λ e. ⊎-elim
-          (λ h. let r = q .final-iff .0 h in (r .0, r .1, ends-seq-right φ (r .2)))
-          (λ h. let r = p .final-iff .0 (and-right (u .nullable) _ h) in (r .0, r .1, ends-seq-left (q .nullable-iff .0 (and-left (u .nullable) _ h)) (r .2)))
-          (or-cases (u .final) _ e),
+          (λ h. let r = q .ending-iff .0 h in (r .0, r .1, ends-seq-right φ (r .2)))
+          (λ h. let r = p .ending-iff .0 (and-right (u .nullable) _ h) in (r .0, r .1, ends-seq-left (q .nullable-iff .0 (and-left (u .nullable) _ h)) (r .2)))
+          (or-cases (u .ending) _ e),
       λ r. ⊎-elim
-          (λ h. or-left (u .final) _ (q .final-iff .1 (r .0, r .1, h)))
-          (λ h. or-right (u .final) _ (and-both (q .nullable-iff .1 (h .0)) (p .final-iff .1 (r .0, r .1, h .1))))
+          (λ h. or-left (u .ending) _ (q .ending-iff .1 (r .0, r .1, h)))
+          (λ h. or-right (u .ending) _ (and-both (q .nullable-iff .1 (h .0)) (p .ending-iff .1 (r .0, r .1, h .1))))
           (last-seq (r .2 .0) (r .0) (r .2 .1)),
     )
 
@@ -111,20 +111,20 @@ module _ {P : Type 0} (t : P → Bool) (m : Positions) where
           (first-seq (r .0 .1)),
     )
 
-    seq-moved : (k : ℕ) → ((s .moved k || (u .moved k || s .final && u .first k)) ≡ true) ↔ (Reached m (seq φ ψ) i k × ((metAt t φ i k || metAt t ψ (i + size φ) k) ≡ true))
+    seq-moved : (k : ℕ) → ((s .moved k || (u .moved k || s .ending && u .first k)) ≡ true) ↔ (Reached m (seq φ ψ) i k × ((metAt t φ i k || metAt t ψ (i + size φ) k) ≡ true))
     seq-moved k = (
       λ e. ⊎-elim
           (λ h. let r = p .moved-iff k .0 h in ((r .0 .0, r .0 .1, before-seq-left ψ (r .0 .2)), or-left (metAt t φ i k) _ (r .1)))
           (λ h. ⊎-elim
           (λ g. let r = q .moved-iff k .0 g in ((r .0 .0, r .0 .1, before-seq-right φ (r .0 .2)), or-right (metAt t φ i k) _ (r .1)))
-          (λ g. let x = p .final-iff .0 (and-left (s .final) _ g) in let y = q .first-iff k .0 (and-right (s .final) _ g) in ((x .0, x .1, before-seq-cut (x .2) (y .0)), or-right (metAt t φ i k) _ (y .1)))
+          (λ g. let x = p .ending-iff .0 (and-left (s .ending) _ g) in let y = q .first-iff k .0 (and-right (s .ending) _ g) in ((x .0, x .1, before-seq-cut (x .2) (y .0)), or-right (metAt t φ i k) _ (y .1)))
           (or-cases (u .moved k) _ h))
           (or-cases (s .moved k) _ e),
       λ r. let j = r .0 .0 in let b = r .0 .2 in ⊎-elim
           (λ h. or-left (s .moved k) _ (p .moved-iff k .1 ((j, r .0 .1, h), metAt-left t φ ψ i k (within-second h) (r .1))))
           (λ h. or-right (s .moved k) _ (⊎-elim
           (λ g. or-left (u .moved k) _ (q .moved-iff k .1 ((j, r .0 .1, g), metAt-right t φ ψ i k (within-second g) (r .1))))
-          (λ g. or-right (u .moved k) _ (and-both (p .final-iff .1 (j, r .0 .1, g .0)) (q .first-iff k .1 (g .1, metAt-right t φ ψ i k (within-at [] k (g .1 .0) (g .1 .1)) (r .1)))))
+          (λ g. or-right (u .moved k) _ (and-both (p .ending-iff .1 (j, r .0 .1, g .0)) (q .first-iff k .1 (g .1, metAt-right t φ ψ i k (within-at [] k (g .1 .0) (g .1 .1)) (r .1)))))
           h))
           (before-seq (b .0) j k (b .1) (b .2)),
     )
@@ -148,21 +148,21 @@ module _ {P : Type 0} (t : P → Bool) (m : Positions) where
             λ e. allow-seq (p .nullable-iff .0 (and-left (s .nullable) _ e)) (q .nullable-iff .0 (and-right (s .nullable) _ e)),
             λ h. let n = nullable-seq h in and-both (p .nullable-iff .1 (n .0)) (q .nullable-iff .1 (n .1)),
           );
-          final-iff = seq-final;
+          ending-iff = seq-ending;
           first-iff = seq-first;
           moved-iff = seq-moved;
           last-iff = seq-last;
         }
 
-    alt-final : ((s .final || u .final) ≡ true) ↔ Ended m (alt φ ψ) i
-    alt-final = (
+    alt-ending : ((s .ending || u .ending) ≡ true) ↔ Ended m (alt φ ψ) i
+    alt-ending = (
       λ e. ⊎-elim
-          (λ h. let r = p .final-iff .0 h in (r .0, r .1, (r .2 .0, allow-left (r .2 .1))))
-          (λ h. let r = q .final-iff .0 h in (r .0, r .1, (r .2 .0, allow-right (r .2 .1))))
-          (or-cases (s .final) _ e),
+          (λ h. let r = p .ending-iff .0 h in (r .0, r .1, (r .2 .0, allow-left (r .2 .1))))
+          (λ h. let r = q .ending-iff .0 h in (r .0, r .1, (r .2 .0, allow-right (r .2 .1))))
+          (or-cases (s .ending) _ e),
       λ r. ⊎-elim
-          (λ h. or-left (s .final) _ (p .final-iff .1 (r .0, r .1, (r .2 .0, h))))
-          (λ h. or-right (s .final) _ (q .final-iff .1 (r .0, r .1, (r .2 .0, h))))
+          (λ h. or-left (s .ending) _ (p .ending-iff .1 (r .0, r .1, (r .2 .0, h))))
+          (λ h. or-right (s .ending) _ (q .ending-iff .1 (r .0, r .1, (r .2 .0, h))))
           (alt-cases (r .2 .1)),
     )
 
@@ -209,28 +209,28 @@ module _ {P : Type 0} (t : P → Bool) (m : Positions) where
             λ e. ⊎-elim (λ h. allow-left (p .nullable-iff .0 h)) (λ h. allow-right (q .nullable-iff .0 h)) (or-cases (s .nullable) _ e),
             λ r. ⊎-elim (λ h. or-left (s .nullable) _ (p .nullable-iff .1 h)) (λ h. or-right (s .nullable) _ (q .nullable-iff .1 h)) (alt-cases r),
           );
-          final-iff = alt-final;
+          ending-iff = alt-ending;
           first-iff = alt-first;
           moved-iff = alt-moved;
           last-iff = alt-last;
         }
 
-  module _ (φ : Past P) (i : ℕ) (s : Summary) (p : Says t m φ i s) where
+  module _ (φ : Past P) (i : ℕ) (s : SetSummary) (p : Says t m φ i s) where
     star-first : (k : ℕ) → (s .first k ≡ true) ↔ (Begins (star φ) i k × (metAt t φ i k ≡ true))
     star-first k = (
       λ e. let r = p .first-iff k .0 e in ((r .0 .0, allow-once (r .0 .1)), r .1),
       λ r. p .first-iff k .1 (first-star (r .0 .1) k (r .0 .0) refl, r .1),
     )
 
-    star-moved : (k : ℕ) → ((s .moved k || s .final && s .first k) ≡ true) ↔ (Reached m (star φ) i k × (metAt t φ i k ≡ true))
+    star-moved : (k : ℕ) → ((s .moved k || s .ending && s .first k) ≡ true) ↔ (Reached m (star φ) i k × (metAt t φ i k ≡ true))
     star-moved k = (
       λ e. ⊎-elim
           (λ h. let r = p .moved-iff k .0 h in let b = r .0 .2 in ((r .0 .0, r .0 .1, (b .0, b .1, allow-once (b .2))), r .1))
-          (λ h. let x = p .final-iff .0 (and-left (s .final) _ h) in let y = p .first-iff k .0 (and-right (s .final) _ h) in ((x .0, x .1, before-star-again (x .2) (y .0)), y .1))
+          (λ h. let x = p .ending-iff .0 (and-left (s .ending) _ h) in let y = p .first-iff k .0 (and-right (s .ending) _ h) in ((x .0, x .1, before-star-again (x .2) (y .0)), y .1))
           (or-cases (s .moved k) _ e),
       λ r. let b = r .0 .2 in ⊎-elim
           (λ h. or-left (s .moved k) _ (p .moved-iff k .1 ((r .0 .0, r .0 .1, h), r .1)))
-          (λ h. or-right (s .moved k) _ (and-both (p .final-iff .1 (r .0 .0, r .0 .1, h .0)) (p .first-iff k .1 (h .1, r .1))))
+          (λ h. or-right (s .moved k) _ (and-both (p .ending-iff .1 (r .0 .0, r .0 .1, h .0)) (p .first-iff k .1 (h .1, r .1))))
           (before-star (b .2) (b .0) (r .0 .0) k (b .1) refl),
     )
 
@@ -238,7 +238,7 @@ module _ {P : Type 0} (t : P → Bool) (m : Positions) where
     says-star =
         record {
           nullable-iff = (λ e. allow-stop, λ h. refl);
-          final-iff = (λ e. let r = p .final-iff .0 e in (r .0, r .1, (r .2 .0, allow-once (r .2 .1))), λ r. p .final-iff .1 (r .0, r .1, last-star (r .2 .1) (r .2 .0) (r .0) refl));
+          ending-iff = (λ e. let r = p .ending-iff .0 e in (r .0, r .1, (r .2 .0, allow-once (r .2 .1))), λ r. p .ending-iff .1 (r .0, r .1, last-star (r .2 .1) (r .2 .0) (r .0) refl));
           first-iff = star-first;
           moved-iff = star-moved;
           last-iff = λ k. (λ e. let r = p .last-iff k .0 e in (r .0, allow-once (r .1)), λ r. p .last-iff k .1 (last-star (r .1) (r .0) k refl));

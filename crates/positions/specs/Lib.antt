@@ -4,4 +4,4 @@ pub mod Numbers
 pub mod Positions
 pub mod Walk
 pub mod Sets
-pub mod Sums
+pub mod Summaries

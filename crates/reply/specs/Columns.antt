@@ -4,11 +4,12 @@ use mathlib.Core.Path.{_≡_}
 use mathlib.Core.List.{List}
 use Prim.Native.Nat.{ℕ, _+_, _/_, _%_, _<_}
 use lib.ListN.{length, getD}
+use Rattle.common.specs.Limits.{replySize}
 
 -- the columns of the reply r with a letter, a number, a name and a text
 pub record Columns (letter n : ℕ) (name text r : List ℕ) : Type 0 where
   -- "Reply, 50 bytes"
-  pub size : length r ≡ 50
+  pub size : length r ≡ replySize
   -- "Column 0", a letter
   pub first : getD r 0 0 ≡ letter
   -- "Columns 2 and 3: .. two digits"

@@ -1,5 +1,4 @@
 pub mod Reply
-pub mod Kinds
 pub mod Writing
 pub mod Columns
 pub mod Printed

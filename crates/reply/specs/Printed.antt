@@ -3,8 +3,8 @@
 use mathlib.Core.Path.{_≡_, refl}
 use mathlib.Core.List.{List, [], _∷_}
 use Prim.Native.Nat.{ℕ}
-use Rattle.reply.specs.declared.kinds.Kind.the-variants.{Declared, Committed, Held, TooLong}
-use Rattle.reply.specs.Kinds.{letterOf}
+use Rattle.columns.specs.declared.kinds.ReplyKind.the-variants.{Declared, Committed, Held, TooLong}
+use Rattle.columns.specs.Kinds.{letterOf}
 use Rattle.reply.specs.Reply.{padded, spaced, dash, replyBytes}
 
 -- the names lamp, uv, expose and a

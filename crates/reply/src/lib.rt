@@ -1,9 +1,7 @@
 // The reply to a record: 50 bytes. Document 01, "Reply, 50 bytes".
 //
 // Every function takes any arguments.
-pub mod kinds;
 pub mod replies;
 
-pub use kinds::Kind;
 pub use replies::plain;
 pub use replies::reply;

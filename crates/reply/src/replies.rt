@@ -1,18 +1,19 @@
 // A whole reply, written into a lent buffer.
-use crate::kinds::Kind;
-use crate::kinds::letter;
+use columns::ReplyKind;
 use columns::blank;
 use columns::front;
+use columns::letter;
 use columns::put;
 use columns::words;
+use common::sizes::REPLY_SIZE;
 ghost use mathlib.Core.List.{[]};
 ghost use Rattle.reply.specs.Writing.{replyOf, Written};
 
 // Writes a reply where 50 bytes are lent for it, and says whether they are. The newline ends a text that is too long for its columns.
-pub fn reply(out: &mut [u8], kind: Kind, number: u8, name: u64, roles: &[u64]) -> bool
+pub fn reply(out: &mut [u8], kind: ReplyKind, number: u8, name: u64, roles: &[u64]) -> bool
     ensures { λ r. ⌜ Written (now (out .entry)) (replyOf kind number name (now (roles .entry))) (now (out .exit)) r ⌝ }
 {
-    if out.len() != 50 {
+    if out.len() != REPLY_SIZE {
         return false;
     }
     let first = letter(kind);
@@ -24,7 +25,7 @@ pub fn reply(out: &mut [u8], kind: Kind, number: u8, name: u64, roles: &[u64]) -
 }
 
 // A reply without role names.
-pub fn plain(out: &mut [u8], kind: Kind, number: u8, name: u64) -> bool
+pub fn plain(out: &mut [u8], kind: ReplyKind, number: u8, name: u64) -> bool
     ensures { λ r. ⌜ Written (now (out .entry)) (replyOf kind number name []) (now (out .exit)) r ⌝ }
 {
     let none: [u64; 0] = [];

@@ -11,7 +11,7 @@ use Rattle.grammar.specs.Lines.{readLine, readEvent}
 use Rattle.grammar.specs.Names.{itemsNames, simpleNames, conditionNames, patternNames, pastNames, slotsNames, responseNames, ruleNames}
 use Rattle.grammar.specs.Size.{sizePast}
 use Rattle.names.specs.Name.{columnOf, packed, columnAt}
-use Rattle.names.specs.Unpacked.{inked, unpacked}
+use Rattle.names.specs.Unpacked.{notSpace, unpacked}
 use Rattle.columns.specs.Texts.{padded}
 use Rattle.frame.specs.Text.{textOf}
 use Rattle.frame.specs.Record.{kindBy, frameOf}
@@ -23,5 +23,5 @@ use Rattle.viewer.specs.Lines.{lineWith, matchedIn}
 use Rattle.viewer.specs.Examples.{Said, starts, refusals}
 
 pub examples-right : Said starts × Said refusals
-unfolding classOf wordy spacey marky run kindOf same nameLike digitKind tokensFrom markIs wordIs placeIs wholly itemOf openOf itemsOf simpleOf conditionWith termWith conditionOf patternOf starsOf afterStars begins pastWith sequenceWith factorWith baseWith pastOf slotOf slotsOf templateOf responseOf roleOf headOf tailOf ruleOf namesOf eventOf readLine readEvent itemsNames simpleNames conditionNames patternNames pastNames slotsNames responseNames ruleNames sizePast columnOf packed columnAt textOf allClassed kindBy frameOf isBelow itemsMeet termMeets meets pastMeaning isFree askedLine askedEvent askedText asked inked unpacked padded lineWith matchedIn
+unfolding classOf wordy spacey marky run kindOf same nameLike digitKind tokensFrom markIs wordIs placeIs wholly itemOf openOf itemsOf simpleOf conditionWith termWith conditionOf patternOf starsOf afterStars begins pastWith sequenceWith factorWith baseWith pastOf slotOf slotsOf templateOf responseOf roleOf headOf tailOf ruleOf namesOf eventOf readLine readEvent itemsNames simpleNames conditionNames patternNames pastNames slotsNames responseNames ruleNames sizePast columnOf packed columnAt textOf allClassed kindBy frameOf isBelow itemsMeet termMeets meets pastMeaning isFree askedLine askedEvent askedText asked notSpace unpacked padded lineWith matchedIn
 examples-right = (refl, refl)

@@ -10,20 +10,20 @@ use Rattle.viewer.specs.Film.{freshFilm}
 use Rattle.viewer.specs.Showing.{linesOf}
 
 -- a record and its line, as printed
-pub record Row : Type 0 where
+pub record FilmRow : Type 0 where
   pub text : String
   pub line : String
 
 -- a record's text and the line that is written of it
-abbrev pub row : String → String → Row
+abbrev pub row : String → String → FilmRow
 row s l = record { text = s; line = l }
 
 -- a fresh film says these lines
-abbrev pub Said : List Row → Type 0
-Said rs = linesOf freshFilm (map (λ (r : Row). recordOf (bytesOf (r .text))) rs) ≡ map (λ (r : Row). bytesOf (r .line) ++ (10 ∷ [])) rs
+abbrev pub Said : List FilmRow → Type 0
+Said rs = linesOf freshFilm (map (λ (r : FilmRow). recordOf (bytesOf (r .text))) rs) ≡ map (λ (r : FilmRow). bytesOf (r .line) ++ (10 ∷ [])) rs
 
 -- a rule sees the acts after its declaration and no other; a role below another meets `+`; a refused act is seen by none
-abbrev pub starts : List Row
+abbrev pub starts : List FilmRow
 starts =
     row "Lrole lamp under top" "D 00 lamp     | -"
     ∷ row "Lrole uv under lamp" "D 00 uv       | -"
@@ -37,7 +37,7 @@ starts =
     ∷ []
 
 -- refusals, and the list of no acts
-abbrev pub refusals : List Row
+abbrev pub refusals : List FilmRow
 refusals =
     row "Quv" "R 03 -        | -"
     ∷ row "Lrule a: ()+<top>; any; hold" "D 00 a        | a"

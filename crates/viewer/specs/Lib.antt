@@ -1,5 +1,5 @@
 pub mod Film
-pub mod Stands
+pub mod RepresentsFilm
 pub mod Answers
 pub mod Views
 pub mod Lines

@@ -7,7 +7,7 @@ use native.Mathlib.Omega.{arith}
 use lib.ListN.{length, drop, getD}
 use borrow.Author.Needs.{needs}
 use Rattle.code.specs.Count.{begins, patternsFrom}
-use Rattle.code.proofs.CountLaws.{count-stop, count-more, count-end, count-right, more-small}
+use Rattle.code.proofs.CountLaws.{count-stop, count-more, count-end, more-small}
 use Rattle.code.proofs.count.patterns.Statement.{statement}
 use Rattle.code.proofs.count.patterns.Tie as tie
 
@@ -25,7 +25,7 @@ returns c =
     let l = c .before .before .before .loop in
     let code = c .before .before .before .before .before .args .code .now in
     let z = count-stop code (l .i) (l .inside) (c .before .before .loop-test .taken) (c .if1 .taken) in
-    count-right code (l .n) (omega arith) (omega arith)
+    omega arith
 
 add-n : tie.Need-add-n Inv-loop μ-loop
 add-n c =
@@ -47,7 +47,7 @@ returns-2 c =
     let l = c .before .loop in
     let code = c .before .before .before .args .code .now in
     let z = count-end code (l .i) (l .inside) (c .loop-test .left) in
-    count-right code (l .n) (omega arith) (omega arith)
+    omega arith
 
 pub patterns-spec : {M : Type 1} → statement M
 patterns-spec =

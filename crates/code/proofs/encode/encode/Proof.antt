@@ -2,7 +2,7 @@
 -- Assumes nothing.
 use mathlib.Core.Path.{refl}
 use borrow.Author.Needs.{needs}
-use Rattle.lexer.proofs.Bools.{or-right, or-none}
+use Rattle.common.proofs.Bools.{or-right, or-none}
 use Rattle.code.proofs.EncodeLaws.{Going, going-start, going-shorter, going-more, going-end, going-full}
 use Rattle.code.proofs.encode.encode.Statement.{statement}
 use Rattle.code.proofs.encode.encode.Tie as tie
@@ -25,7 +25,7 @@ returns-2 : tie.Need-returns-2 Inv-loop μ-loop
 returns-2 c =
     let k = c .before in
     let r = k .before .before .before .before in
-    going-full _ _ _ _ _ _ (r .before .loop .inv) _ _ _ (rw (k .before .c .given .1, r .rest .ensures) at (k .before .before .before .front .ensures)) (c .if1 .taken)
+    going-full _ _ _ _ _ _ (r .before .loop .inv) (c .if1 .taken)
 
 loop-less : tie.Need-loop-less Inv-loop μ-loop
 loop-less c =

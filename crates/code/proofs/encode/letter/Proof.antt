@@ -3,16 +3,16 @@
 use mathlib.Core.Path.{refl, sym}
 use lib.ListN.{List·getD-eq-default}
 use borrow.Author.Needs.{needs}
-use Rattle.code.specs.Code.{letterOf, letters}
+use Rattle.code.specs.Code.{byteOfKind, letters}
 use Rattle.code.proofs.encode.letter.Statement.{statement}
 use Rattle.code.proofs.encode.letter.Tie as tie
 
 returns : tie.Need-returns
-unfolding letterOf
+unfolding byteOfKind
 returns c = refl
 
 returns-2 : tie.Need-returns-2
-unfolding letterOf
+unfolding byteOfKind
 returns-2 c = sym (List·getD-eq-default letters 0 (c .if1 .left))
 
 pub letter-spec : {M : Type 1} → statement M

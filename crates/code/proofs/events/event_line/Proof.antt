@@ -3,8 +3,8 @@
 use mathlib.Core.Path.{refl}
 use borrow.Author.Needs.{needs}
 use borrow.Author.Tests.{eq-eqb, ne-eqb}
-use Rattle.lexer.proofs.Bools.{or-right, or-none}
-use Rattle.code.proofs.EventLaws.{Going, no-role, going-start, going-shorter, going-more, going-end, going-other, going-full}
+use Rattle.common.proofs.Bools.{or-right, or-none}
+use Rattle.code.proofs.EventLaws.{Going, going-start, going-shorter, going-more, going-end, going-other, going-full}
 use Rattle.code.proofs.events.event_line.Statement.{statement}
 use Rattle.code.proofs.events.event_line.Tie as tie
 
@@ -15,7 +15,7 @@ abbrev μ-loop : tie.MeasureT-loop
 μ-loop text names roles₀ len₀ left₀ unknown₀ roles len left unknown = left
 
 loop-holds : tie.Need-loop-holds Inv-loop μ-loop
-loop-holds c = going-start _ _ _ refl no-role
+loop-holds c = going-start _ _ _ refl
 
 returns : tie.Need-returns Inv-loop μ-loop
 returns c =

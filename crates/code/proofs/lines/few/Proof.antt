@@ -1,16 +1,18 @@
 -- `few` meets its contract: the count over the body's code, held to the limit.
 -- Assumes nothing.
-use mathlib.Core.Path.{_≡_, sym}
+use mathlib.Core.Path.{_≡_, refl, sym}
 use native.Mathlib.Omega.{arith}
 use lib.ListN.{length}
 use lib.Seq.{length-take-le}
 use borrow.Author.Needs.{needs}
-use Rattle.code.proofs.LineLaws.{few-read}
+use borrow.Author.Tests.{le-leb, lt-leb}
+use Rattle.code.specs.Lines.{fewIn}
 use Rattle.code.proofs.lines.few.Statement.{statement}
 use Rattle.code.proofs.lines.few.Tie as tie
 
 returns : tie.Need-returns
-returns c = record { right = λ l p rest e. absurd (omega (arith, c .if1 .taken)) }
+unfolding fewIn
+returns c = rw (lt-leb _ _ (c .if1 .taken)) refl
 
 array-share-prefix-code : tie.Need-array-share-prefix-code
 array-share-prefix-code c =
@@ -23,7 +25,8 @@ slice-aggregate-patterns c =
     sym (length-take-le _ _ (omega arith))
 
 returns-2 : tie.Need-returns-2
-returns-2 c = few-read _ _ (c .patterns .ensures)
+unfolding fewIn
+returns-2 c = rw (le-leb _ _ (c .before .before .if1 .left), c .patterns .ensures) refl
 
 pub few-spec : {M : Type 1} → statement M
 few-spec = tie.close (tie.spec returns array-share-prefix-code slice-aggregate-patterns (λ c κs. search needs) returns-2)

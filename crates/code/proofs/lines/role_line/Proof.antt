@@ -10,7 +10,7 @@ returns c =
     let a = c .before .before in
     let b = a .before in
     let n = b .before in
-    role-read _ _ _ _ _ _ _ _ (n .before .after-first .ensures) (b .after-first2 .ensures) (a .after-first3 .ensures) (n .leading .ensures) (c .before .leading2 .ensures) (c .find .ensures)
+    role-read _ _ _ _ _ (n .before .after-first .ensures) (b .after-first2 .ensures) (a .after-first3 .ensures) _ _ _ (n .leading .ensures) (c .before .leading2 .ensures) (c .find .ensures)
 
 pub role-line-spec : {M : Type 1} → statement M
 role-line-spec =

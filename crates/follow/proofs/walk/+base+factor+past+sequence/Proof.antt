@@ -22,11 +22,11 @@ use Rattle.follow.proofs.walk.+base+factor+past+sequence.Lts-past as pa
 use Rattle.follow.proofs.walk.sequence.Reads as sequence
 use Rattle.follow.proofs.walk.sequence.Kinds as sequence-kinds
 use Rattle.follow.proofs.walk.+base+factor+past+sequence.Lts-sequence as sequence-lts
-use Rattle.patterns.proofs.judge.pattern.Reads as pattern-reads
-use Rattle.positions.proofs.sums.in_order.Reads as in-order-reads
-use Rattle.positions.proofs.sums.nothing.Reads as nothing-reads
-use Rattle.positions.proofs.sums.one.Reads as one-reads
-use Rattle.positions.proofs.sums.one_of.Reads as one-of-reads
+use Rattle.patterns.proofs.pattern.Reads as pattern-reads
+use Rattle.positions.proofs.summaries.in_order.Reads as in-order-reads
+use Rattle.positions.proofs.summaries.nothing.Reads as nothing-reads
+use Rattle.positions.proofs.summaries.one.Reads as one-reads
+use Rattle.positions.proofs.summaries.one_of.Reads as one-of-reads
 use Rattle.follow.proofs.walk.stars.Reads as stars-reads
 use Rattle.follow.proofs.walk.starts.Reads as starts-reads
 use Rattle.follow.proofs.walk.+base+factor+past+sequence.{statement}

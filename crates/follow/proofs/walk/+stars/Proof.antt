@@ -10,7 +10,7 @@ use borrow.Fn.PlainCycle.{Measures, is, falls, and}
 use Rattle.follow.proofs.walk.stars.Reads as stars
 use Rattle.follow.proofs.walk.stars.Kinds as stars-kinds
 use Rattle.follow.proofs.walk.+stars.Lts-stars as stars-lts
-use Rattle.positions.proofs.sums.repeated.Reads as repeated-reads
+use Rattle.positions.proofs.summaries.repeated.Reads as repeated-reads
 use Rattle.follow.proofs.walk.+stars.{statement}
 use Rattle.follow.proofs.walk.+stars.Tie.{close}
 

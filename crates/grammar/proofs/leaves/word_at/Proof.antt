@@ -1,6 +1,7 @@
 -- `word_at` answers as the parser of one word does: a word of that kind, of another kind, or no word.
 use mathlib.Core.Logic.{⊎-elim}
 use native.Mathlib.Omega.{arith}
+use Rattle.lexer.proofs.NextLaws.{next-means}
 use Rattle.grammar.proofs.LeafLaws.{word-yes, word-no, word-none}
 use borrow.Author.Needs.{needs}
 use Rattle.grammar.proofs.leaves.word_at.Statement.{statement}
@@ -9,16 +10,16 @@ use Rattle.grammar.proofs.leaves.word_at.Tie as tie
 returns : tie.Need-returns
 returns c =
     let v = c .before .before .q .given in
-    word-yes _ _ _ _ (rw (v .1) at (c .before .before .before .before .next .ensures)) (c .if1 .taken)
+    word-yes _ _ _ _ (next-means _ _ (rw (v .1) at (c .before .before .before .before .next .ensures))) (c .if1 .taken)
 
 returns-2 : tie.Need-returns-2
 returns-2 c =
     let v = c .before .before .q .given in
-    word-no _ _ _ _ (rw (v .1) at (c .before .before .before .before .next .ensures)) (c .if1 .left)
+    word-no _ _ _ _ (next-means _ _ (rw (v .1) at (c .before .before .before .before .next .ensures))) (c .if1 .left)
 
 returns-3 : tie.Need-returns-3
 returns-3 c =
-    word-none _ _ (c .before .next .result) (c .before .next .ensures)
+    word-none _ _ (c .before .next .result) (next-means _ _ (c .before .next .ensures))
     (λ m n e. ⊎-elim (λ q. omega arith) (λ w. ⊎-elim (λ q. omega arith) (λ q. omega arith) w) (rw e at (c .match .keys2)))
 
 pub word-at-spec : {M : Type 1} → statement M

@@ -3,7 +3,7 @@
 use mathlib.Core.Path.{sym, _∙_}
 use lib.Seq.{length-take-le}
 use borrow.Author.Needs.{needs}
-use Rattle.follow.proofs.Limits.{capped-take}
+use Rattle.follow.proofs.CappedLaws.{capped-take}
 use Rattle.intake.proofs.AskLaws.{ask-line, ask-event, ask-short, ask-malformed}
 use Rattle.intake.proofs.asks.ask.Statement.{statement}
 use Rattle.intake.proofs.asks.ask.Tie as tie

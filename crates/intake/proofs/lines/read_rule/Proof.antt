@@ -3,7 +3,7 @@
 use mathlib.Core.Path.{sym}
 use lib.Seq.{length-take-le}
 use borrow.Author.Needs.{needs}
-use Rattle.follow.proofs.Limits.{capped-take}
+use Rattle.follow.proofs.CappedLaws.{capped-take}
 use Rattle.intake.proofs.lines.read_rule.Statement.{statement}
 use Rattle.intake.proofs.lines.read_rule.Tie as tie
 

@@ -34,7 +34,8 @@ returns-4 c =
     let t = c₀ .skip .result .now in
     let e = c .before .before .word .ensures in
     rw (c .word-kind .ensures, e)
-    (next-word _ t (c₀ .skip .ensures) (c .before .before .before .before .before .before .if1 .left) (λ z. c .before .if3 .left (ap length e ∙ z)))
+    (next-word _ t (c₀ .skip .ensures) (c .before .before .before .before .before .before .if1 .left)
+    (λ q. c .before .before .before .if2 .left (c .before .before .before .before .class-of .ensures ∙ q)) (λ z. c .before .if3 .left (ap length e ∙ z)))
 
 pub next-spec : {M : Type 1} → statement M
 next-spec =

@@ -9,7 +9,7 @@ returns : tie.Need-returns
 returns c =
     let h = c .seen .ensures in
     record {
-      seen = record { letter = h .letter; number = h .number; name = h .name ∙ c .before .dash .ensures; state = refl; bits = h .bits };
+      seen = record { kind = h .kind; number = h .number; name = h .name ∙ c .before .dash .ensures; state = refl; bits = h .bits };
       commits = rw (h .state) (c .before .before .commit .ensures);
     }
 

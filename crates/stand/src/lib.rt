@@ -1,0 +1,66 @@
+// The library for other languages: calls over byte buffers and numbers. A slice passes as a pointer and a length.
+//
+// Every call takes any bytes of any length. Where sizes do not fit it answers 11 and writes nothing.
+mod judging;
+mod sessions;
+mod sizes;
+
+use judge::judge;
+use judging::SHIFT;
+use judging::after;
+use judging::number_of;
+use sessions::run;
+use sizes::fits;
+ghost use mathlib.Core.Path.{_≡_};
+ghost use Rattle.stand.specs.Calls.{SessionRun};
+ghost use Rattle.stand.specs.Sheets.{sheetJudged};
+
+// A whole session from a fresh monitor. Call k has the next lengths[k] bytes of `records` as its record and the next sizes[k] bytes of `replies` as its
+// reply buffer; its number goes to numbers[k]. Answers 0; or 11, where the counts differ or the sizes do not add up to the buffers.
+#[no_mangle]
+pub extern "C" fn stand_session(
+    records: &[u8],
+    lengths: &[u32],
+    replies: &mut [u8],
+    sizes: &[u32],
+    numbers: &mut [u8],
+) -> u32
+    ensures { λ r. ⌜ SessionRun (now (records .entry)) (now (lengths .entry)) (now (sizes .entry)) (now (replies .entry)) (now (replies .exit)) (now (numbers .entry)) (now (numbers .exit)) r ⌝ }
+{
+    if !fits(lengths, records.len()) {
+        return 11;
+    }
+    if !fits(sizes, replies.len()) {
+        return 11;
+    }
+    if lengths.len() != sizes.len() {
+        return 11;
+    }
+    if lengths.len() != numbers.len() {
+        return 11;
+    }
+    run(records, lengths, replies, sizes, numbers);
+    0
+}
+
+// The judge on the monitor that a sheet leaves: whole records, handed to a fresh monitor in turn, their replies dropped. Answers the refusal's number
+// times 4,294,967,296, and 1 more for yes; 11 where the sheet is not whole records.
+#[no_mangle]
+pub extern "C" fn stand_judge(sheet: &[u8], number: u32, records: &[u8]) -> u64
+    ensures { λ r. ⌜ r ≡ sheetJudged (now (sheet .entry)) number (now (records .entry)) ⌝ }
+{
+    if sheet.len() % 128 != 0 {
+        return 11 * SHIFT;
+    }
+    let monitor = after(sheet);
+    number_of(judge(
+        &monitor.sheet.names,
+        monitor.sheet.role_count,
+        &monitor.sheet.parents,
+        &monitor.sheet.rows,
+        &monitor.sheet.ends,
+        monitor.sheet.rule_count,
+        number as usize,
+        records,
+    ))
+}

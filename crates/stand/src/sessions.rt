@@ -1,0 +1,25 @@
+// A whole session.
+use crate::sizes::as_length;
+use monitor::handle;
+ghost use Rattle.stand.specs.Calls.{Fit, SessionAnswered};
+
+// The calls in turn, each on the monitor that the one before left and on its own part of the reply buffer.
+pub fn run(records: &[u8], lengths: &[u32], replies: &mut [u8], sizes: &[u32], numbers: &mut [u8])
+    requires { ⌜ Fit (now records) (now lengths) (now sizes) (now replies) (now numbers) ⌝ }
+    ensures { λ r. ⌜ SessionAnswered (now (records .entry)) (now (lengths .entry)) (now (sizes .entry)) (now (replies .entry)) (now (replies .exit)) (now (numbers .exit)) ⌝ }
+{
+    let mut monitor = monitor::new();
+    let mut at = 0;
+    let mut to = 0;
+    let mut k = 0;
+    while k < lengths.len() {
+        let end = at + as_length(lengths[k]);
+        let past = to + as_length(sizes[k]);
+        let handled = handle(monitor, &records[at..end], &mut replies[to..past]);
+        numbers[k] = handled.number;
+        monitor = handled.monitor;
+        at = end;
+        to = past;
+        k += 1;
+    }
+}

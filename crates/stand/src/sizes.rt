@@ -1,0 +1,28 @@
+// Sizes that a host names beside its buffers.
+ghost use mathlib.Core.Path.{_≡_};
+ghost use lib.Dec.{eqb};
+ghost use Rattle.stand.specs.Calls.{total};
+
+// A 32-bit size as a length.
+pub fn as_length(n: u32) -> usize
+    ensures { λ r. ⌜ r ≡ n ⌝ }
+{
+    n as usize
+}
+
+// Whether the sizes add up to a length. It takes each off what is left, so that no sum can wrap.
+pub fn fits(sizes: &[u32], len: usize) -> bool
+    ensures { λ r. ⌜ r ≡ eqb (total (now (sizes .entry))) len ⌝ }
+{
+    let mut left = len;
+    let mut k = 0;
+    while k < sizes.len() {
+        let n = as_length(sizes[k]);
+        if left < n {
+            return false;
+        }
+        left -= n;
+        k += 1;
+    }
+    left == 0
+}

@@ -1,8 +1,0 @@
--- `agrees` meets its contract: the bytes were compared.
--- Assumes nothing.
-use borrow.Author.Needs.{needs}
-use Rattle.verdicts.proofs.answers.agrees.Statement.{statement}
-use Rattle.verdicts.proofs.answers.agrees.Tie as tie
-
-pub agrees-spec : {M : Type 1} → statement M
-agrees-spec = tie.close (tie.spec (λ c κs. search needs) (λ c. c .same .ensures .0))
