@@ -3,6 +3,8 @@ pub mod Decide
 pub mod Book
 pub mod MachineSteps
 pub mod Session
+pub mod Batches
+pub mod Operations
 pub mod Rows
 pub mod Working
 pub mod Kept

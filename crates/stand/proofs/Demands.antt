@@ -1,14 +1,17 @@
 -- THE CUSTOMER'S THREE DEMANDS, as theorems of the code. Every definition that they are made of is found from the imports; each statement is its own sentence's.
 --
--- `LeftBy cs m` says that the calls cs, made in turn on a fresh monitor by what `new` and `handle` promise, left the monitor m. `HandledAs m c a m′` is what `handle`
--- promises of the call c on m, of its answer a and of the monitor m′ that it hands back. `handle` is proved for any monitor, any record and any buffer, with no
--- `requires`: it returns, stays inside its buffers, and what it hands back has that promise.
+-- A session is a list of operations: single calls, and batches of records in one call (document 02, C-11). `LeftBy os m` says that the operations os, done in turn on a
+-- fresh monitor by what `new`, `handle` and `handle_batch` promise, left the monitor m. `HandledAs m c a m′` is what `handle` promises of the call c on m, of its answer
+-- a and of the monitor m′ that it hands back; `BatchedAs` is what `handle_batch` promises. Both functions are proved for any monitor, any records and any buffer, with no
+-- `requires`: they return, stay inside their buffers, and what they hand back has that promise.
 -- Assumes nothing.
 use mathlib.Core.Path.{_≡_, subst}
 use mathlib.Core.Bool.{true}
 use mathlib.Core.List.{List, _∷_, _++_}
 use mathlib.Core.Logic.{_↔_}
-use Prim.Native.Nat.{ℕ, _<_}
+use Prim.Native.Nat.{ℕ, _*_, _<_}
+use lib.ListN.{length, take, drop}
+use Rattle.common.specs.Limits.{replySize}
 use Rattle.lexer.specs.Words.{same}
 use Rattle.grammar.specs.AsRead.{Line}
 use Rattle.grammar.specs.Lines.{Says}
@@ -24,96 +27,135 @@ use Rattle.book.specs.Book.{Book, freshBook, bookDuties, bookStep}
 use Rattle.book.specs.Rows.{Lends, CallRow, Allowed, Full}
 use Rattle.book.specs.Working.{WorkEnds}
 use Rattle.book.specs.Session.{answers, left}
+use Rattle.book.specs.Batches.{BatchOf, callsIn, buffers}
+use Rattle.book.specs.Operations.{Operation, Result, bookOperate, callsMade}
 use Rattle.book.specs.Kept.{Kept}
 use Rattle.book.proofs.Kept.{events-kept}
+use Rattle.book.proofs.Batches.{operations-as-calls, own-place}
 use Rattle.monitor.specs.Handled.{Refused}
-use Rattle.monitor.specs.Sessions.{Begun, HandledAs, Session, LeftBy}
+use Rattle.monitor.specs.Sessions.{Begun, HandledAs, Session}
 use Rattle.monitor.specs.Marks.{MarksIn}
-use Rattle.monitor.proofs.WholeSession.{session-is-book}
 use Rattle.monitor.proofs.OfCode as code
+use Rattle.batch.specs.Handled.{BatchedAs}
+use Rattle.batch.proofs.Exactly as batches
 use Rattle.judge.specs.Judging.{lentOf, Judged}
 use Rattle.judge.specs.Rows.{VerdictRow, bookRules}
 use Rattle.judge.specs.declared.answers.Verdict.{Verdict}
-use Rattle.judge.proofs.Exactly.{session-judged}
-use Rattle.stand.specs.Calls.{Ran, SessionRun}
+use Rattle.judge.proofs.Exactly.{book-judged}
+use Rattle.stand.specs.Operations.{Operated, LeftBy, Ran}
+use Rattle.stand.specs.Kinds.{OperationsRun}
+use Rattle.stand.proofs.WholeSession.{operations-are-book, left-keeps, session-is-book}
 use Rattle.stand.proofs.HandedOver.{HandedOver, handed-over}
 
--- the plain book after the calls
-abbrev pub book : List Call → Book
-book cs = left bookStep freshBook cs
+-- the plain book after the operations
+abbrev pub book : List Operation → Book
+book os = left bookOperate freshBook os
 
 -- DEMAND 1. "No record of any bytes or length and no order of calls makes the monitor stop short, read outside its buffers or end half changed. Each malformed
 -- record, wrong name and full table has its fixed refusal, in a fixed order; the monitor is unchanged by it and the reply buffer after it is fixed to the byte."
 
--- The order of refusals: after any calls, the number of a call is n exactly when row n of document 01's table refuses it, every row before it being passed.
-pub refused-by-row : (cs : List Call) (m m′ : State) (c : Call) (a : Answer) → LeftBy cs m → HandledAs m c a m′
-    → (n : ℕ) → 0 < n → (a .number ≡ n) ↔ CallRow (book cs .roles) (bookDuties (book cs)) c (refused n)
-refused-by-row = code.code-number
+-- The order of refusals: after any operations, the number of a call is n exactly when row n of document 01's table refuses it, every row before it being passed.
+pub refused-by-row : (os : List Operation) (m m′ : State) (c : Call) (a : Answer) → LeftBy os m → HandledAs m c a m′
+    → (n : ℕ) → 0 < n → (a .number ≡ n) ↔ CallRow (book os .roles) (bookDuties (book os)) c (refused n)
+refused-by-row os m m′ c a l h = code.code-number (book os) m m′ c a (left-keeps os m l) h
 
 -- A refusal changes nothing, of any monitor at all: the monitor is the same, and the buffer is as lent (row 1) or has exactly the 50 bytes of that refusal.
 pub refusal-changes-nothing : (m m′ : State) (c : Call) (a : Answer) → HandledAs m c a m′ → (a .number ≡ 0 → ⊥) → Refused m (c .buffer) (a .buffer) (record { number = a .number; monitor = m′ })
 refusal-changes-nothing m m′ c a h = h .refused
 
--- A run exists for every list of calls: there are buffers that hold just these calls, and whatever `stand_session` leaves of them (it is proved for any buffers, with
--- no `requires`, so it returns) shows a run of the calls on a fresh monitor, with the book's answers.
-pub every-list-handed-over : (cs : List Call) → HandedOver cs
+-- C-11. "Turned away: 11, record buffer not whole records, over 512 of them, or reply buffer not 50 bytes for each": of any monitor at all, a batch's number is 11 exactly
+-- when its buffers are those of no batch, and 0 exactly when they are those of n records and n replies, n from 0 to 512, whatever the records inside get.
+pub batch-refused-by-size : (m m′ : State) (s b : List ℕ) (a : Answer) → BatchedAs m s b a m′ → (a .number ≡ 11) ↔ ((n : ℕ) → BatchOf n s b → ⊥)
+batch-refused-by-size = batches.eleven-exactly
+
+pub batch-taken-by-size : (m m′ : State) (s b : List ℕ) (a : Answer) → BatchedAs m s b a m′ → (a .number ≡ 0) ↔ ((n : ℕ) × BatchOf n s b)
+batch-taken-by-size = batches.zero-exactly
+
+-- "looked at first, both buffers untouched": then the reply buffer is as lent, and the monitor is the same. (The record buffer is lent to be read only.)
+pub batch-refusal-changes-nothing : (m m′ : State) (s b : List ℕ) (a : Answer) → BatchedAs m s b a m′ → (a .number ≡ 0 → ⊥) → (a ≡ record { number = 11; buffer = b }) × (m′ ≡ m)
+batch-refusal-changes-nothing = batches.refusal-steady
+
+-- A run exists for every list of operations: there are buffers that hold just these, and whatever `stand_operations` leaves of them (it is proved for any buffers, with
+-- no `requires`, so it returns) shows a run of the operations on a fresh monitor, with the book's results.
+pub every-list-handed-over : (os : List Operation) → HandedOver os
 every-list-handed-over = handed-over
 
-pub every-list-runs : (cs : List Call) (h : HandedOver cs) (left told : List ℕ) (r : ℕ) → SessionRun (h .records) (h .lengths) (h .sizes) (h .replies) left (h .numbers) told r
-    → (r ≡ 0) × Ran cs (answers bookStep freshBook cs)
-every-list-runs cs h left told r s = let t = s .taken (h .fit) in (t .0, subst (λ (l : List Call). Ran l (answers bookStep freshBook l)) (h .calls) (t .1 .ran))
+pub every-list-runs : (os : List Operation) (h : HandedOver os) (left told : List ℕ) (r : ℕ)
+    → OperationsRun (h .kinds) (h .records) (h .lengths) (h .sizes) (h .replies) left (h .numbers) told r → (r ≡ 0) × Ran os (answers bookOperate freshBook os)
+every-list-runs os h left told r s =
+    let t = s .taken (h .fit) in (t .0, subst (λ (l : List Operation). Ran l (answers bookOperate freshBook l)) (h .operations) (t .1 .ran))
 
 -- DEMAND 2. "A line is taken exactly when the rule language, the name checks and the limits allow it, and it has a single reading. A past matches a list of acts exactly
 -- when Appendix A .. says so. A chain is worked by that paper's steps, last declared first, and ends committed, held, unfit, or too long only when a 65th response would be
 -- due."
 
--- After any calls, the number is 0 exactly when the rule language, the names held and the places free allow the line or the event.
-pub taken-when-allowed : (cs : List Call) (m m′ : State) (c : Call) (a : Answer) → LeftBy cs m → HandledAs m c a m′ → (a .number ≡ 0) ↔ Allowed (book cs .roles) (bookDuties (book cs)) c
-taken-when-allowed = code.code-taken
+-- After any operations, the number is 0 exactly when the rule language, the names held and the places free allow the line or the event.
+pub taken-when-allowed : (os : List Operation) (m m′ : State) (c : Call) (a : Answer) → LeftBy os m → HandledAs m c a m′ → (a .number ≡ 0) ↔ Allowed (book os .roles) (bookDuties (book os)) c
+taken-when-allowed os m m′ c a l h = code.code-taken (book os) m m′ c a (left-keeps os m l) h
 
 -- "A monitor that said 8 with a place free breaks demand 2": the number is 8 exactly when no place is free for a line that passes every other row.
-pub full-when-full : (cs : List Call) (m m′ : State) (c : Call) (a : Answer) → LeftBy cs m → HandledAs m c a m′ → (a .number ≡ 8) ↔ Full (book cs .roles) (bookDuties (book cs)) c
-full-when-full = code.code-eight
+pub full-when-full : (os : List Operation) (m m′ : State) (c : Call) (a : Answer) → LeftBy os m → HandledAs m c a m′ → (a .number ≡ 8) ↔ Full (book os .roles) (bookDuties (book os)) c
+full-when-full os m m′ c a l h = code.code-eight (book os) m m′ c a (left-keeps os m l) h
 
 -- A text has a single reading, over role lines, rule lines and events together.
 pub one-reading : (s : List ℕ) (l k : Line) → Says s l → Says s k → l ≡ k
 one-reading = single-reading
 
--- After any calls, rule by rule, the state's own array holds exactly document 01's marks of the events since the rule's declaration, and by it the past matches exactly
+-- After any operations, rule by rule, the state's own array holds exactly document 01's marks of the events since the rule's declaration, and by it the past matches exactly
 -- when Appendix A says so of those events.
-pub marks-of-the-state : (cs : List Call) (m : State) → LeftBy cs m → MarksIn m (book cs .roles) (book cs .history) (m .sheet .«rule_count») (book cs .rules)
-marks-of-the-state = code.session-marks
+pub marks-of-the-state : (os : List Operation) (m : State) → LeftBy os m → MarksIn m (book os .roles) (book os .history) (m .sheet .«rule_count») (book os .rules)
+marks-of-the-state os m l = code.state-marks (book os) m (left-keeps os m l)
 
 -- An accepted event is worked by the paper's steps to an end: committed, held, unfit, or too long when 64 responses are worked and another is due; and the answer is
 -- the reply of that end.
-pub event-is-worked : (cs : List Call) (m m′ : State) (c : Call) (a : Answer) → LeftBy cs m → HandledAs m c a m′
-    → (e : Event) → Lends c → SaysEvent (c .bytes) e → allHeld same (book cs .roles) e ≡ true
-    → (o : Outcome) × WorkEnds (chain (orderOf same (book cs .roles)) (bookDuties (book cs))) e o × (a ≡ record { number = 0; buffer = outcomeReply o })
-event-is-worked = code.code-worked
+pub event-is-worked : (os : List Operation) (m m′ : State) (c : Call) (a : Answer) → LeftBy os m → HandledAs m c a m′
+    → (e : Event) → Lends c → SaysEvent (c .bytes) e → allHeld same (book os .roles) e ≡ true
+    → (o : Outcome) × WorkEnds (chain (orderOf same (book os .roles)) (bookDuties (book os))) e o × (a ≡ record { number = 0; buffer = outcomeReply o })
+event-is-worked os m m′ c a l h = code.code-worked (book os) m m′ c a (left-keeps os m l) h
 
 -- and with the reply of no other end
-pub event-no-other : (cs : List Call) (m m′ : State) (c : Call) (a : Answer) → LeftBy cs m → HandledAs m c a m′
-    → (e : Event) (o : Outcome) → Lends c → SaysEvent (c .bytes) e → allHeld same (book cs .roles) e ≡ true
-    → WorkEnds (chain (orderOf same (book cs .roles)) (bookDuties (book cs))) e o → a ≡ record { number = 0; buffer = outcomeReply o }
-event-no-other = code.code-event
+pub event-no-other : (os : List Operation) (m m′ : State) (c : Call) (a : Answer) → LeftBy os m → HandledAs m c a m′
+    → (e : Event) (o : Outcome) → Lends c → SaysEvent (c .bytes) e → allHeld same (book os .roles) e ≡ true
+    → WorkEnds (chain (orderOf same (book os .roles)) (bookDuties (book os))) e o → a ≡ record { number = 0; buffer = outcomeReply o }
+event-no-other os m m′ c a l h = code.code-event (book os) m m′ c a (left-keeps os m l) h
 
 -- DEMAND 3. "For every list of calls (records of any bytes and length, refused ones too, reply buffers of any size) from a fresh monitor: each call's number and reply
 -- buffer, byte for byte, are those of the plain book that keeps the whole list of committed acts and matches afresh. Said once, of the list of calls as a whole."
 
-pub whole-session-is-book : (m m′ : State) (cs : List Call) (xs : List Answer) → Begun m → Session m cs xs m′ → xs ≡ answers bookStep freshBook cs
-whole-session-is-book = session-is-book
+-- Said once, of the list of operations as a whole: every operation's number and buffers are the plain book's, which runs a batch as its records one by one.
+pub whole-session-is-book : (m m′ : State) (os : List Operation) (rs : List Result) → Begun m → Operated m os rs m′ → rs ≡ answers bookOperate freshBook os
+whole-session-is-book = operations-are-book
 
--- one call more: what the theorem says of the last call of a list
-pub call-is-book : (cs : List Call) (m m′ : State) (c : Call) (a : Answer) → LeftBy cs m → HandledAs m c a m′ → a ≡ bookStep (book cs) c .1
-call-is-book = code.call-is-book
+-- the case of single calls only
+pub single-calls-are-book : (m m′ : State) (cs : List Call) (xs : List Answer) → Begun m → Session m cs xs m′ → xs ≡ answers bookStep freshBook cs
+single-calls-are-book = session-is-book
+
+-- one call more: what the theorem says of the last operation of a list, where it is a call
+pub call-is-book : (os : List Operation) (m m′ : State) (c : Call) (a : Answer) → LeftBy os m → HandledAs m c a m′ → a ≡ bookStep (book os) c .1
+call-is-book os m m′ c a l h = code.call-is-book (book os) m m′ c a (left-keeps os m l) h
+
+-- C-11. "Replies and monitor must be those of n single calls in the same order.": of any monitor at all, a batch of n records is a run of n single calls of `handle`, each
+-- on its own 50 bytes as lent; the reply buffer is theirs, one after the other, and the monitor is the one that they leave.
+pub batch-is-single-calls : (m m′ : State) (s b : List ℕ) (a : Answer) → BatchedAs m s b a m′ → (n : ℕ) → BatchOf n s b
+    → (xs : List Answer) × Session m (callsIn n s b) xs m′ × (a ≡ record { number = 0; buffer = buffers xs })
+batch-is-single-calls = batches.batch-is-calls
+
+-- "Each reply is written into its own 50 bytes of the lent reply buffer.": after any operations, reply k of a batch stands in bytes 50 k to 50 k + 49
+pub reply-in-its-place : (os : List Operation) (n : ℕ) (s b : List ℕ) → BatchOf n s b → (u : List Answer) (x : Answer) (v : List Answer) → answers bookStep (book os) (callsIn n s b) ≡ u ++ (x ∷ v)
+    → take replySize (drop (length u * replySize) (buffers (answers bookStep (book os) (callsIn n s b)))) ≡ x .buffer
+reply-in-its-place os n s b h u x v e = own-place n s b (book os) (h .replies) u x v e
 
 -- Its second part: "Take any act in the book's list and any pattern whose roles were all held when that act was committed: the act meets it with the roles held then
--- exactly when it meets it with those held after any later call while it stands in the list."
-pub list-stays-true : (cs : List Call) (u : List Event) (e : Event) (v : List Event) → book cs .history ≡ u ++ (e ∷ v) → Kept cs u e
-list-stays-true = events-kept
+-- exactly when it meets it with those held after any later call while it stands in the list." The calls are those that the operations made.
+pub list-stays-true : (os : List Operation) (u : List Event) (e : Event) (v : List Event) → book os .history ≡ u ++ (e ∷ v) → Kept (callsMade os) u e
+list-stays-true os u e v q = events-kept (callsMade os) u e v (subst (λ (x : Book). x .history ≡ u ++ (e ∷ v)) (operations-as-calls bookStep os freshBook) q)
 
--- THE JUDGE. "The judge checks 9, then 10, then its records in turn by 3, 4 and 6; the first refusal found is its answer. It otherwise says yes or no": after any calls, by
--- the roles and the rules of the book left, whatever the rules have seen.
-pub judged-by-row : (m m′ : State) (cs : List Call) (xs : List Answer) (i : ℕ) (s : List ℕ) (r v : Verdict) → Begun m → Session m cs xs m′ → Judged (lentOf (m′ .sheet)) i s r
-    → (r ≡ v) ↔ VerdictRow (book cs .roles) (bookRules (book cs)) i s v
-judged-by-row = session-judged
+-- and the book that the operations leave is the one that those calls leave
+pub operations-are-calls : (os : List Operation) → book os ≡ left bookStep freshBook (callsMade os)
+operations-are-calls os = operations-as-calls bookStep os freshBook
+
+-- THE JUDGE. "The judge checks 9, then 10, then its records in turn by 3, 4 and 6; the first refusal found is its answer. It otherwise says yes or no": after any
+-- operations, by the roles and the rules of the book left, whatever the rules have seen.
+pub judged-by-row : (os : List Operation) (m : State) (i : ℕ) (s : List ℕ) (r v : Verdict) → LeftBy os m → Judged (lentOf (m .sheet)) i s r
+    → (r ≡ v) ↔ VerdictRow (book os .roles) (bookRules (book os)) i s v
+judged-by-row os m i s r v l j = book-judged m (book os) i s r v (left-keeps os m l .represents) j

@@ -1,62 +1,96 @@
--- Every list of calls can be handed over: there are buffers and sizes that hold just these calls.
+-- Every list of operations can be handed over: there are kinds, sizes and buffers that hold just these operations.
 -- Assumes nothing.
 use mathlib.Core.Path.{_≡_, refl, sym, ap, ap₂, _∙_}
+use mathlib.Core.Bool.{true}
 use mathlib.Core.List.{List, [], _∷_, _++_, map}
 use Prim.Native.Nat.{ℕ, suc, _+_}
-use lib.ListN.{length, drop, length-append}
+use lib.ListN.{length, take, drop, length-append}
 use lib.Seq.{take-append-seam, drop-append-seam}
-use Rattle.book.specs.Decide.{Call}
-use Rattle.stand.specs.Calls.{total, callsOf, Fit}
+use Rattle.book.specs.Operations.{Operation, call, batch}
+use Rattle.stand.specs.Calls.{total}
+use Rattle.stand.specs.Kinds.{batchKind, operationOf, operationsOf, allKnown, OperationsFit}
 
--- the calls' parts, one after the other
-abbrev together : (Call → List ℕ) → List Call → List ℕ
+-- the kind of an operation, its records and its reply buffer
+abbrev kindOf : Operation → ℕ
+kindOf (call c) = 0
+kindOf (batch s b) = batchKind
+
+abbrev recordsIn : Operation → List ℕ
+recordsIn (call c) = c .bytes
+recordsIn (batch s b) = s
+
+abbrev bufferIn : Operation → List ℕ
+bufferIn (call c) = c .buffer
+bufferIn (batch s b) = b
+
+-- the operations' parts, one after the other
+abbrev together : (Operation → List ℕ) → List Operation → List ℕ
 together part [] = []
-together part (c ∷ cs) = part c ++ together part cs
+together part (o ∷ os) = part o ++ together part os
 
 -- their sizes
-abbrev sizesOf : (Call → List ℕ) → List Call → List ℕ
-sizesOf part cs = map (λ c. length (part c)) cs
+abbrev sizesOf : (Operation → List ℕ) → List Operation → List ℕ
+sizesOf part os = map (λ o. length (part o)) os
 
--- buffers that hold the calls cs, and nothing else
-pub record HandedOver (cs : List Call) : Type 0 where
+-- buffers that hold the operations os, and nothing else
+pub record HandedOver (os : List Operation) : Type 0 where
+  pub kinds : List ℕ
   pub records : List ℕ
   pub lengths : List ℕ
   pub sizes : List ℕ
   pub replies : List ℕ
   pub numbers : List ℕ
-  pub calls : callsOf lengths sizes records replies ≡ cs
-  pub fit : Fit records lengths sizes replies numbers
+  pub operations : operationsOf kinds lengths sizes records replies ≡ os
+  pub fit : OperationsFit kinds records lengths sizes replies numbers
 
-calls-back : (cs : List Call) → callsOf (sizesOf (λ c. c .bytes) cs) (sizesOf (λ c. c .buffer) cs) (together (λ c. c .bytes) cs) (together (λ c. c .buffer) cs) ≡ cs
-calls-back [] = refl
-calls-back (c ∷ cs) =
-    let s = together (λ c. c .bytes) cs in
-    let b = together (λ c. c .buffer) cs in
-    ap₂ (λ (x y : List ℕ). record { bytes = x; buffer = y } ∷ callsOf (sizesOf (λ c. c .bytes) cs) (sizesOf (λ c. c .buffer) cs) (drop (length (c .bytes)) (c .bytes ++ s)) (drop (length (c .buffer)) (c .buffer ++ b)))
-    (take-append-seam (c .bytes) s) (take-append-seam (c .buffer) b)
-    ∙ ap₂ (λ (x y : List ℕ). c ∷ callsOf (sizesOf (λ c. c .bytes) cs) (sizesOf (λ c. c .buffer) cs) x y) (drop-append-seam (c .bytes) s) (drop-append-seam (c .buffer) b)
-    ∙ ap (λ (l : List Call). c ∷ l) (calls-back cs)
+one-back : (o : Operation) → operationOf (kindOf o) (recordsIn o) (bufferIn o) ≡ o
+one-back (call c) = refl
+one-back (batch s b) = refl
 
-total-together : (part : Call → List ℕ) (cs : List Call) → total (sizesOf part cs) ≡ length (together part cs)
+all-back : (os : List Operation) → operationsOf (map kindOf os) (sizesOf recordsIn os) (sizesOf bufferIn os) (together recordsIn os) (together bufferIn os) ≡ os
+all-back [] = refl
+all-back (o ∷ os) =
+    let ks = map kindOf os in
+    let ns = sizesOf recordsIn os in
+    let ws = sizesOf bufferIn os in
+    let s = together recordsIn os in
+    let b = together bufferIn os in
+    ap₂ (λ (x y : List ℕ). operationOf (kindOf o) x y ∷ operationsOf ks ns ws (drop (length (recordsIn o)) (recordsIn o ++ s)) (drop (length (bufferIn o)) (bufferIn o ++ b)))
+    (take-append-seam (recordsIn o) s) (take-append-seam (bufferIn o) b)
+    ∙ ap₂ (λ (x y : List ℕ). operationOf (kindOf o) (recordsIn o) (bufferIn o) ∷ operationsOf ks ns ws x y) (drop-append-seam (recordsIn o) s) (drop-append-seam (bufferIn o) b)
+    ∙ ap₂ (λ (p : Operation) (l : List Operation). p ∷ l) (one-back o) (all-back os)
+
+kinds-known : (os : List Operation) → allKnown (map kindOf os) ≡ true
+unfolding allKnown
+kinds-known [] = refl
+kinds-known (call c ∷ os) = kinds-known os
+kinds-known (batch s b ∷ os) = kinds-known os
+
+total-together : (part : Operation → List ℕ) (os : List Operation) → total (sizesOf part os) ≡ length (together part os)
 total-together part [] = refl
-total-together part (c ∷ cs) = ap (λ (n : ℕ). length (part c) + n) (total-together part cs) ∙ sym (length-append (part c) (together part cs))
+total-together part (o ∷ os) = ap (λ (n : ℕ). length (part o) + n) (total-together part os) ∙ sym (length-append (part o) (together part os))
 
-sizes-many : (p q : Call → List ℕ) (cs : List Call) → length (sizesOf p cs) ≡ length (sizesOf q cs)
-sizes-many p q [] = refl
-sizes-many p q (c ∷ cs) = ap suc (sizes-many p q cs)
+as-many : (f g : Operation → ℕ) (os : List Operation) → length (map f os) ≡ length (map g os)
+as-many f g [] = refl
+as-many f g (o ∷ os) = ap suc (as-many f g os)
 
-pub handed-over : (cs : List Call) → HandedOver cs
-handed-over cs = record {
-  records = together (λ c. c .bytes) cs;
-  lengths = sizesOf (λ c. c .bytes) cs;
-  sizes = sizesOf (λ c. c .buffer) cs;
-  replies = together (λ c. c .buffer) cs;
-  numbers = sizesOf (λ c. c .bytes) cs;
-  calls = calls-back cs;
+pub handed-over : (os : List Operation) → HandedOver os
+handed-over os = record {
+  kinds = map kindOf os;
+  records = together recordsIn os;
+  lengths = sizesOf recordsIn os;
+  sizes = sizesOf bufferIn os;
+  replies = together bufferIn os;
+  numbers = map kindOf os;
+  operations = all-back os;
   fit = record {
-    records = total-together (λ c. c .bytes) cs;
-    replies = total-together (λ c. c .buffer) cs;
-    sizes = sizes-many (λ c. c .bytes) (λ c. c .buffer) cs;
-    numbers = refl;
+    known = kinds-known os;
+    kinds = as-many kindOf (λ o. length (recordsIn o)) os;
+    sizes = record {
+      records = total-together recordsIn os;
+      replies = total-together bufferIn os;
+      sizes = as-many (λ o. length (recordsIn o)) (λ o. length (bufferIn o)) os;
+      numbers = as-many (λ o. length (recordsIn o)) kindOf os;
+    };
   };
 }

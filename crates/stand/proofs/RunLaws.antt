@@ -1,48 +1,50 @@
--- A session worked call by call, over the buffers of a host.
+-- A session worked operation by operation, over the buffers of a host.
 -- Assumes nothing.
 use mathlib.Core.Path.{_≡_, refl, sym, ap, ap₂, _∙_, subst}
 use mathlib.Core.List.{List, [], _∷_, _++_, map, append-assoc, append-nil}
 use Prim.Native.Nat.{ℕ, _+_, _-_, _≤_, _<_}
 use native.Mathlib.Omega.{arith}
-use lib.ListN.{length, take, drop, getD, set, length-append, length-drop, drop-of-length-le}
-use lib.Seq.{length-take-le, drop-drop, drop-append-seam, take-append-seam, set-append-seam}
+use lib.ListN.{length, take, drop, getD, set, length-drop, drop-of-length-le}
+use lib.Seq.{length-take-le, drop-drop, getD-drop, set-append-seam}
 use borrow.Rule.Slice.PartMut.{putMid}
 use Rattle.follow.specs.declared.state.State.{State}
-use Rattle.book.specs.Decide.{Call, Answer}
-use Rattle.book.specs.Session.{run-end, run-call}
-use Rattle.monitor.specs.Handled.{Handles}
-use Rattle.monitor.specs.Sessions.{Begun, HandledAs, Session}
-use Rattle.monitor.proofs.WholeSession.{session-is-book}
+use Rattle.book.specs.Decide.{Answer}
+use Rattle.book.specs.Session.{run-end}
+use Rattle.book.specs.Batches.{buffers}
+use Rattle.book.specs.Operations.{Operation, Result, answered}
+use Rattle.book.proofs.Runs.{run-last}
+use Rattle.book.proofs.Batches.{buffers-append}
+use Rattle.monitor.specs.Sessions.{Begun}
 use Rattle.monitor.specs.declared.calls.Handled.{Handled}
-use Rattle.stand.specs.Calls.{total, callsOf, buffers, Fit, SessionAnswered, SessionRun}
+use Rattle.batch.proofs.PartLaws.{Filled, filled-none, part-lent, same-room, filled-more, filled-set, filled-all}
+use Rattle.stand.specs.Operations.{OperatedAs, Operated}
+use Rattle.stand.specs.Calls.{total, Fit}
+use Rattle.stand.specs.Kinds.{operationOf, operationsOf, answerOf, OperationsAnswered}
 use Rattle.stand.proofs.SizeLaws.{total-here, total-end, drop-here}
+use Rattle.stand.proofs.WholeSession.{operations-are-book}
 
-abbrev pub numbersOf : List Answer → List ℕ
-numbersOf xs = map (λ (x : Answer). x .number) xs
+abbrev pub numbersOf : List Result → List ℕ
+numbersOf rs = map (λ (r : Result). answerOf r .number) rs
 
--- one call more at the end of a run
-run-end-call : {m m′ m″ : State} {c : Call} {a : Answer} {cs : List Call} {xs : List Answer} → Session m cs xs m′ → HandledAs m′ c a m″ → Session m (cs ++ (c ∷ [])) (xs ++ (a ∷ [])) m″
-run-end-call run-end h = run-call h run-end
-run-end-call (run-call g run) h = run-call g (run-end-call run h)
+abbrev pub buffersOf : List Result → List ℕ
+buffersOf rs = buffers (map answerOf rs)
 
--- k calls are made: they are a run from a fresh monitor to f, and its answers stand in the buffers
-pub record Progress (s ns ws b cs : List ℕ) (f : State) (left told : List ℕ) (at to k : ℕ) : Type 0 where
+-- k operations are done: they are a run from a fresh monitor to f, and their results stand in the buffers
+pub record Progress (ks s ns ws b cs : List ℕ) (f : State) (left told : List ℕ) (at to k : ℕ) : Type 0 where
   pub fit : Fit s ns ws b cs
   pub first : State
   pub begun : Begun first
-  pub made : List Call
-  pub done : List Answer
-  pub session : Session first made done f
-  pub calls : callsOf ns ws s b ≡ made ++ callsOf (drop k ns) (drop k ws) (drop at s) (drop to b)
-  pub numbers : told ≡ numbersOf done ++ drop k cs
-  pub replies : left ≡ buffers done ++ drop to b
-  pub counted : length (numbersOf done) ≡ k
-  pub wrote : length (buffers done) ≡ to
+  pub made : List Operation
+  pub done : List Result
+  pub session : Operated first made done f
+  pub operations : operationsOf ks ns ws s b ≡ made ++ operationsOf (drop k ks) (drop k ns) (drop k ws) (drop at s) (drop to b)
+  pub numbers : Filled cs (numbersOf done) told k
+  pub replies : Filled b (buffersOf done) left to
   pub records : at + total (drop k ns) ≡ length s
   pub room : to + total (drop k ws) ≡ length b
 
-pub begun : (s ns ws b cs : List ℕ) (f : State) → Fit s ns ws b cs → Begun f → Progress s ns ws b cs f b cs 0 0 0
-begun s ns ws b cs f h fresh =
+pub begun : (ks s ns ws b cs : List ℕ) (f : State) → Fit s ns ws b cs → Begun f → Progress ks s ns ws b cs f b cs 0 0 0
+begun ks s ns ws b cs f h fresh =
     record {
       fit = h;
       first = f;
@@ -50,152 +52,112 @@ begun s ns ws b cs f h fresh =
       made = [];
       done = [];
       session = run-end;
-      calls = refl;
-      numbers = refl;
-      replies = refl;
-      counted = refl;
-      wrote = refl;
+      operations = refl;
+      numbers = filled-none cs;
+      replies = filled-none b;
       records = omega (arith, h .records);
       room = omega (arith, h .replies);
     }
 
--- where the record and the reply buffer of the next call end
-pub record-ends : (s ns ws b cs : List ℕ) (f : State) (left told : List ℕ) (at to k : ℕ) → Progress s ns ws b cs f left told at to k → k < length ns → at + getD ns k 0 ≤ length s
-record-ends s ns ws b cs f left told at to k p more = omega (arith, p .records, total-here k ns more)
+map-end : {A B : Type 0} (f : A → B) (l : List A) (a : A) → map f (l ++ (a ∷ [])) ≡ map f l ++ (f a ∷ [])
+map-end f [] a = refl
+map-end f (x ∷ l) a = ap (λ r. f x ∷ r) (map-end f l a)
 
-pub size-there : (s ns ws b cs : List ℕ) (f : State) (left told : List ℕ) (at to k : ℕ) → Progress s ns ws b cs f left told at to k → k < length ns → k < length ws
-size-there s ns ws b cs f left told at to k p more = omega (arith, p .fit .sizes, more)
+buffers-end : (rs : List Result) (a : Answer) → buffersOf (rs ++ (answered a ∷ [])) ≡ buffersOf rs ++ a .buffer
+buffers-end rs a = ap buffers (map-end answerOf rs (answered a)) ∙ buffers-append (map answerOf rs) (a ∷ []) ∙ ap (λ (l : List ℕ). buffersOf rs ++ l) (append-nil (a .buffer))
 
-pub same-room : (s ns ws b cs : List ℕ) (f : State) (left told : List ℕ) (at to k : ℕ) → Progress s ns ws b cs f left told at to k → length left ≡ length b
-same-room s ns ws b cs f left told at to k p =
-    let e : length left ≡ to + (length b - to) = ap length (p .replies) ∙ length-append (buffers (p .done)) (drop to b) ∙ ap₂ (λ (i j : ℕ). i + j) (p .wrote) (length-drop to b) in
-    omega (arith, e, p .room)
+module _ (ks s ns ws b cs : List ℕ) (f : State) (left told : List ℕ) (at to k : ℕ) (p : Progress ks s ns ws b cs f left told at to k) where
+  -- the buffers keep their lengths
+  pub room-same : length left ≡ length b
+  room-same = same-room b (buffersOf (p .done)) left to (p .replies) (omega (arith, p .room))
 
-pub part-ends : (s ns ws b cs : List ℕ) (f : State) (left told : List ℕ) (at to k : ℕ) → Progress s ns ws b cs f left told at to k → k < length ns → to + getD ws k 0 ≤ length left
-part-ends s ns ws b cs f left told at to k p more =
-    omega (arith, p .room, same-room s ns ws b cs f left told at to k p, total-here k ws (size-there s ns ws b cs f left told at to k p more))
+  pub places-same : k ≤ length ns → length told ≡ length cs
+  places-same few = same-room cs (numbersOf (p .done)) told k (p .numbers) (omega (arith, p .fit .numbers, few))
 
--- a place for each number
-pub same-places : (s ns ws b cs : List ℕ) (f : State) (left told : List ℕ) (at to k : ℕ) → Progress s ns ws b cs f left told at to k → k ≤ length ns → length told ≡ length cs
-same-places s ns ws b cs f left told at to k p few =
-    let e : length told ≡ k + (length cs - k) = ap length (p .numbers) ∙ length-append (numbersOf (p .done)) (drop k cs) ∙ ap₂ (λ (i j : ℕ). i + j) (p .counted) (length-drop k cs) in
-    omega (arith, e, p .fit .numbers, few)
+  module _ (more : k < length ns) where
+    -- where the records and the reply buffer of the next operation end
+    pub records-end : at + getD ns k 0 ≤ length s
+    records-end = omega (arith, p .records, total-here k ns more)
 
-numbers-end : (xs : List Answer) (a : Answer) → numbersOf (xs ++ (a ∷ [])) ≡ numbersOf xs ++ (a .number ∷ [])
-numbers-end [] a = refl
-numbers-end (x ∷ xs) a = ap (λ (r : List ℕ). x .number ∷ r) (numbers-end xs a)
+    pub size-there : k < length ws
+    size-there = omega (arith, p .fit .sizes, more)
 
-buffers-end : (xs : List Answer) (a : Answer) → buffers (xs ++ (a ∷ [])) ≡ buffers xs ++ a .buffer
-buffers-end [] a = append-nil (a .buffer)
-buffers-end (x ∷ xs) a = ap (λ (r : List ℕ). x .buffer ++ r) (buffers-end xs a) ∙ sym (append-assoc (x .buffer) (buffers xs) (a .buffer))
+    pub part-ends : to + getD ws k 0 ≤ length b
+    part-ends = omega (arith, p .room, total-here k ws size-there)
 
--- what is not answered yet is as the host lent it
-drop-lent : (s ns ws b cs : List ℕ) (f : State) (left told : List ℕ) (at to k : ℕ) → Progress s ns ws b cs f left told at to k → drop to left ≡ drop to b
-drop-lent s ns ws b cs f left told at to k p =
-    ap (drop to) (p .replies) ∙ subst (λ (n : ℕ). drop n (buffers (p .done) ++ drop to b) ≡ drop to b) (p .wrote) (drop-append-seam (buffers (p .done)) (drop to b))
+    pub place-there : k < length told
+    place-there = omega (arith, places-same (omega (arith, more)), p .fit .numbers, more)
 
-part-lent : (s ns ws b cs : List ℕ) (f : State) (left told : List ℕ) (at to k w : ℕ) → Progress s ns ws b cs f left told at to k → take w (drop to left) ≡ take w (drop to b)
-part-lent s ns ws b cs f left told at to k w p = ap (take w) (drop-lent s ns ws b cs f left told at to k p)
+    -- one operation more
+    module _ (y : List ℕ) (r : Handled) where
+      abbrev n : ℕ
+      n = getD ns k 0
 
-module _ (s ns ws b cs : List ℕ) (f : State) (left told : List ℕ) (at to k : ℕ) (p : Progress s ns ws b cs f left told at to k) (more : k < length ns) (y : List ℕ) (r : Handled) where
-  abbrev n : ℕ
-  n = getD ns k 0
+      abbrev w : ℕ
+      w = getD ws k 0
 
-  abbrev w : ℕ
-  w = getD ws k 0
+      abbrev next : Operation
+      next = operationOf (getD ks k 0) (take n (drop at s)) (take w (drop to b))
 
-  abbrev call : Call
-  call = record { bytes = take n (drop at s); buffer = take w (drop to b) }
+      abbrev given : Answer
+      given = record { number = r .number; buffer = y }
 
-  abbrev given : Answer
-  given = record { number = r .number; buffer = y }
+      abbrev others : List Operation
+      others = operationsOf (drop (k + 1) ks) (drop (k + 1) ns) (drop (k + 1) ws) (drop (at + n) s) (drop (to + w) b)
 
-  more-sizes : k < length ws
-  more-sizes = omega (arith, p .fit .sizes)
+      operations-here : operationsOf (drop k ks) (drop k ns) (drop k ws) (drop at s) (drop to b) ≡ next ∷ others
+      operations-here =
+          let here : k + 0 ≡ k = omega arith in
+          ap₂ (λ (x z : List ℕ). operationsOf (drop k ks) x z (drop at s) (drop to b)) (drop-here k ns more) (drop-here k ws size-there)
+          ∙ ap₂ (λ (i : ℕ) (x : List ℕ). operationOf i (take n (drop at s)) (take w (drop to b)) ∷ operationsOf x (drop (k + 1) ns) (drop (k + 1) ws) (drop n (drop at s)) (drop w (drop to b))) (getD-drop k ks 0 0 ∙ ap (λ (i : ℕ). getD ks i 0) here) (drop-drop 1 k ks)
+          ∙ ap₂ (λ (x z : List ℕ). next ∷ operationsOf (drop (k + 1) ks) (drop (k + 1) ns) (drop (k + 1) ws) x z) (drop-drop n at s) (drop-drop w to b)
 
-  calls-here : callsOf (drop k ns) (drop k ws) (drop at s) (drop to b) ≡ call ∷ callsOf (drop (k + 1) ns) (drop (k + 1) ws) (drop (at + n) s) (drop (to + w) b)
-  calls-here =
-      ap₂ (λ (x z : List ℕ). callsOf x z (drop at s) (drop to b)) (drop-here k ns more) (drop-here k ws more-sizes)
-      ∙ ap₂ (λ (x z : List ℕ). call ∷ callsOf (drop (k + 1) ns) (drop (k + 1) ws) x z) (drop-drop n at s) (drop-drop w to b)
+      pub step : OperatedAs f (operationOf (getD ks k 0) (take n (drop at s)) (take w (drop to left))) (answered given) (r .monitor) → length y ≡ w
+          → Progress ks s ns ws b cs (r .monitor) (putMid to w left y) (set told k (r .number)) (at + n) (to + w) (k + 1)
+      step h sized =
+          record {
+            fit = p .fit;
+            first = p .first;
+            begun = p .begun;
+            made = p .made ++ (next ∷ []);
+            done = p .done ++ (answered given ∷ []);
+            session = run-last {o = next} {r = answered given} (p .session) (subst (λ (l : List ℕ). OperatedAs f (operationOf (getD ks k 0) (take n (drop at s)) l) (answered given) (r .monitor)) (part-lent b (buffersOf (p .done)) left to (p .replies) w) h);
+            operations = p .operations ∙ ap (λ (l : List Operation). p .made ++ l) operations-here ∙ sym (append-assoc (p .made) (next ∷ []) others);
+            numbers = subst (λ (l : List ℕ). Filled cs l (set told k (r .number)) (k + 1)) (sym (map-end (λ (x : Result). answerOf x .number) (p .done) (answered given))) (filled-set cs (numbersOf (p .done)) told k (p .numbers) (r .number) (omega (arith, p .fit .numbers, more)));
+            replies = subst (λ (l : List ℕ). Filled b l (putMid to w left y) (to + w)) (sym (buffers-end (p .done) given)) (filled-more b (buffersOf (p .done)) left to (p .replies) w y sized);
+            records = omega (arith, p .records, total-here k ns more);
+            room = omega (arith, p .room, total-here k ws size-there);
+          }
 
-  -- the lent part with its answer, between what is answered and what is not yet lent
-  left-here : putMid to w left y ≡ (buffers (p .done) ++ y) ++ drop (to + w) b
-  left-here =
-      let front : take to left ≡ buffers (p .done) = ap (take to) (p .replies) ∙ subst (λ (i : ℕ). take i (buffers (p .done) ++ drop to b) ≡ buffers (p .done)) (p .wrote) (take-append-seam (buffers (p .done)) (drop to b)) in
-      let back : drop w (drop to left) ≡ drop (to + w) b = ap (drop w) (drop-lent s ns ws b cs f left told at to k p) ∙ drop-drop w to b in
-      ap₂ (λ (u v : List ℕ). u ++ (y ++ v)) front back ∙ sym (append-assoc (buffers (p .done)) y (drop (to + w) b))
+    -- the same, with the numbers as the code has them
+    pub worked : (i n w : ℕ) (y : List ℕ) (r : Handled) → i ≡ getD ks k 0 → n ≡ getD ns k 0 → w ≡ getD ws k 0
+        → OperatedAs f (operationOf i (take (at + n - at) (drop at s)) (take (to + w - to) (drop to left))) (answered (record { number = r .number; buffer = y })) (r .monitor) → length y ≡ length (take (to + w - to) (drop to left))
+        → Progress ks s ns ws b cs (r .monitor) (putMid to (to + w - to) left y) (set told k (r .number)) (at + n) (to + w) (k + 1)
+    worked i n w y r ei en ew h sized =
+        let a : Answer = record { number = r .number; buffer = y } in
+        let ed : to + w - to ≡ w = omega arith in
+        let ee : at + n - at ≡ n = omega arith in
+        let told′ = set told k (r .number) in
+        let h₁ = subst (λ (j : ℕ). OperatedAs f (operationOf i (take (at + n - at) (drop at s)) (take j (drop to left))) (answered a) (r .monitor)) (ed ∙ ew) h in
+        let h₂ = subst (λ (j : ℕ). OperatedAs f (operationOf i (take j (drop at s)) (take (getD ws k 0) (drop to left))) (answered a) (r .monitor)) (ee ∙ en) h₁ in
+        let h₃ = subst (λ (j : ℕ). OperatedAs f (operationOf j (take (getD ns k 0) (drop at s)) (take (getD ws k 0) (drop to left))) (answered a) (r .monitor)) ei h₂ in
+        let room : getD ws k 0 ≤ length (drop to left) = omega (arith, length-drop to left, part-ends, room-same) in
+        let long : length y ≡ getD ws k 0 = sized ∙ ap (λ (j : ℕ). length (take j (drop to left))) (ed ∙ ew) ∙ length-take-le (getD ws k 0) (drop to left) room in
+        let q₁ = step y r h₃ long in
+        let q₂ = subst (λ (j : ℕ). Progress ks s ns ws b cs (r .monitor) (putMid to (getD ws k 0) left y) told′ (at + getD ns k 0) (to + j) (k + 1)) (sym ew) q₁ in
+        let q₃ = subst (λ (j : ℕ). Progress ks s ns ws b cs (r .monitor) (putMid to (getD ws k 0) left y) told′ (at + j) (to + w) (k + 1)) (sym en) q₂ in
+        subst (λ (j : ℕ). Progress ks s ns ws b cs (r .monitor) (putMid to j left y) told′ (at + n) (to + w) (k + 1)) (sym (ed ∙ ew)) q₃
 
-  told-here : set told k (r .number) ≡ (numbersOf (p .done) ++ (r .number ∷ [])) ++ drop (k + 1) cs
-  told-here =
-      let more-numbers : k < length cs = omega (arith, p .fit .numbers) in
-      let e : told ≡ numbersOf (p .done) ++ (getD cs k 0 ∷ drop (k + 1) cs) = p .numbers ∙ ap (λ (v : List ℕ). numbersOf (p .done) ++ v) (drop-here k cs more-numbers) in
-      ap (λ (l : List ℕ). set l k (r .number)) e
-      ∙ subst (λ (i : ℕ). set (numbersOf (p .done) ++ (getD cs k 0 ∷ drop (k + 1) cs)) i (r .number) ≡ numbersOf (p .done) ++ (r .number ∷ drop (k + 1) cs)) (p .counted) (set-append-seam (numbersOf (p .done)) (getD cs k 0) (drop (k + 1) cs) (r .number))
-      ∙ sym (append-assoc (numbersOf (p .done)) (r .number ∷ []) (drop (k + 1) cs))
-
-  -- one call more
-  pub step : Handles f (take n (drop at s)) (take w (drop to left)) y r → length y ≡ w → Progress s ns ws b cs (r .monitor) (putMid to w left y) (set told k (r .number)) (at + n) (to + w) (k + 1)
-  step h sized =
-      let lent = part-lent s ns ws b cs f left told at to k w p in
-      let made-so = subst (λ (l : List ℕ). Handles f (take n (drop at s)) l y r) lent h in
-      let others = callsOf (drop (k + 1) ns) (drop (k + 1) ws) (drop (at + n) s) (drop (to + w) b) in
-      let counts = total-here k ns more in
-      let rooms = total-here k ws more-sizes in
+  -- all operations are worked
+  pub finished : length ns ≤ k → OperationsAnswered ks s ns ws b left told
+  finished end =
+      let over : operationsOf (drop k ks) (drop k ns) (drop k ws) (drop at s) (drop to b) ≡ [] = ap (λ (l : List ℕ). operationsOf (drop k ks) l (drop k ws) (drop at s) (drop to b)) (drop-of-length-le ns end) in
+      let all : p .made ≡ operationsOf ks ns ws s b = sym (p .operations ∙ ap (λ (l : List Operation). p .made ++ l) over ∙ append-nil (p .made)) in
+      let ran = subst (λ (l : List Operation). Operated (p .first) l (p .done) f) all (p .session) in
+      let book = operations-are-book (p .first) f (operationsOf ks ns ws s b) (p .done) (p .begun) ran in
+      let spent = total-end k ws (omega (arith, p .fit .sizes, end)) in
       record {
-        fit = p .fit;
-        first = p .first;
-        begun = p .begun;
-        made = p .made ++ (call ∷ []);
-        done = p .done ++ (given ∷ []);
-        session = run-end-call {c = call} {a = given} (p .session) made-so;
-        calls = p .calls ∙ ap (λ (l : List Call). p .made ++ l) calls-here ∙ sym (append-assoc (p .made) (call ∷ []) others);
-        numbers = told-here ∙ ap (λ (l : List ℕ). l ++ drop (k + 1) cs) (sym (numbers-end (p .done) given));
-        replies = left-here ∙ ap (λ (l : List ℕ). l ++ drop (to + w) b) (sym (buffers-end (p .done) given));
-        counted = ap length (numbers-end (p .done) given) ∙ length-append (numbersOf (p .done)) (r .number ∷ []) ∙ ap (λ (i : ℕ). i + 1) (p .counted);
-        wrote = ap length (buffers-end (p .done) given) ∙ length-append (buffers (p .done)) y ∙ ap₂ (λ (i j : ℕ). i + j) (p .wrote) sized;
-        records = omega (arith, p .records, counts);
-        room = omega (arith, p .room, rooms);
+        ran = record { first = p .first; last = f; begun = p .begun; session = subst (λ (rs : List Result). Operated (p .first) (operationsOf ks ns ws s b) rs f) book ran };
+        numbers = filled-all cs (numbersOf (p .done)) told k (p .numbers) (omega (arith, p .fit .numbers, end)) ∙ ap numbersOf book;
+        replies = filled-all b (buffersOf (p .done)) left to (p .replies) (omega (arith, p .room, spent)) ∙ ap buffersOf book;
       }
-
--- the same, with the numbers as the code has them
-pub called : (s ns ws b cs : List ℕ) (f : State) (left told : List ℕ) (at to k : ℕ) → Progress s ns ws b cs f left told at to k → k < length ns
-    → (n w : ℕ) (y : List ℕ) (r : Handled) → n ≡ getD ns k 0 → w ≡ getD ws k 0
-    → Handles f (take (at + n - at) (drop at s)) (take (to + w - to) (drop to left)) y r → length y ≡ length (take (to + w - to) (drop to left))
-    → Progress s ns ws b cs (r .monitor) (putMid to (to + w - to) left y) (set told k (r .number)) (at + n) (to + w) (k + 1)
-called s ns ws b cs f left told at to k p more n w y r en ew h sized =
-    let ed : to + w - to ≡ w = omega arith in
-    let ee : at + n - at ≡ n = omega arith in
-    let n′ = getD ns k 0 in
-    let w′ = getD ws k 0 in
-    let told′ = set told k (r .number) in
-    let h₁ = subst (λ (i : ℕ). Handles f (take (at + n - at) (drop at s)) (take i (drop to left)) y r) (ed ∙ ew) h in
-    let h₂ = subst (λ (i : ℕ). Handles f (take i (drop at s)) (take w′ (drop to left)) y r) (ee ∙ en) h₁ in
-    let room : w′ ≤ length (drop to left) = omega (arith, length-drop to left, part-ends s ns ws b cs f left told at to k p more) in
-    let long : length y ≡ w′ = sized ∙ ap (λ (i : ℕ). length (take i (drop to left))) (ed ∙ ew) ∙ length-take-le w′ (drop to left) room in
-    let q₁ = step s ns ws b cs f left told at to k p more y r h₂ long in
-    let q₂ = subst (λ (i : ℕ). Progress s ns ws b cs (r .monitor) (putMid to w′ left y) told′ (at + n′) (to + i) (k + 1)) (sym ew) q₁ in
-    let q₃ = subst (λ (i : ℕ). Progress s ns ws b cs (r .monitor) (putMid to w′ left y) told′ (at + i) (to + w) (k + 1)) (sym en) q₂ in
-    subst (λ (i : ℕ). Progress s ns ws b cs (r .monitor) (putMid to i left y) told′ (at + n) (to + w) (k + 1)) (sym (ed ∙ ew)) q₃
-
--- all calls are worked
-pub finished : (s ns ws b cs : List ℕ) (f : State) (left told : List ℕ) (at to k : ℕ) → Progress s ns ws b cs f left told at to k → length ns ≤ k → SessionAnswered s ns ws b left told
-finished s ns ws b cs f left told at to k p end =
-    let over : callsOf (drop k ns) (drop k ws) (drop at s) (drop to b) ≡ [] = ap (λ (l : List ℕ). callsOf l (drop k ws) (drop at s) (drop to b)) (drop-of-length-le ns end) in
-    let all : p .made ≡ callsOf ns ws s b = sym (p .calls ∙ ap (λ (l : List Call). p .made ++ l) over ∙ append-nil (p .made)) in
-    let ran = subst (λ (l : List Call). Session (p .first) l (p .done) f) all (p .session) in
-    let book = session-is-book (p .first) f (callsOf ns ws s b) (p .done) (p .begun) ran in
-    let spent : drop to b ≡ [] = drop-of-length-le b {i = to} (omega (arith, p .room, total-end k ws (omega (arith, p .fit .sizes, end)))) in
-    let told-all : drop k cs ≡ [] = drop-of-length-le cs {i = k} (omega (arith, p .fit .numbers, end)) in
-    record {
-      ran = record { first = p .first; last = f; begun = p .begun; session = subst (λ (xs : List Answer). Session (p .first) (callsOf ns ws s b) xs f) book ran };
-      numbers = p .numbers ∙ ap (λ (l : List ℕ). numbersOf (p .done) ++ l) told-all ∙ append-nil (numbersOf (p .done)) ∙ ap numbersOf book;
-      replies = p .replies ∙ ap (λ (l : List ℕ). buffers (p .done) ++ l) spent ∙ append-nil (buffers (p .done)) ∙ ap buffers book;
-    }
-
--- the sizes do not fit
-pub sizes-refused : (s ns ws lent cs : List ℕ) → (Fit s ns ws lent cs → ⊥) → SessionRun s ns ws lent lent cs cs 11
-sizes-refused s ns ws lent cs h = record { taken = λ f. absurd (h f); refused = λ n. (refl, refl, refl) }
-
--- they do
-pub worked : (s ns ws lent left cs told : List ℕ) → Fit s ns ws lent cs → SessionAnswered s ns ws lent left told → SessionRun s ns ws lent left cs told 0
-worked s ns ws lent left cs told h a = record { taken = λ f. (refl, a); refused = λ n. absurd (n h) }

@@ -1,14 +1,17 @@
--- A session as a host hands it over: the calls' records and reply buffers one after the other in two buffers, with the sizes beside them.
+-- Single calls as a host hands them over: their records and reply buffers one after the other in two buffers, with the sizes beside them.
 -- Assumes nothing.
 use mathlib.Core.Path.{_≡_}
-use mathlib.Core.List.{List, [], _∷_, _++_, map}
+use mathlib.Core.Bool.{Bool, _&&_}
+use mathlib.Core.List.{List, [], _∷_, map}
 use Prim.Native.Nat.{ℕ, _+_}
+use lib.Dec.{eqb}
 use lib.ListN.{length, take, drop}
-use Rattle.follow.specs.declared.state.State.{State}
 use Rattle.book.specs.Decide.{Call, Answer}
 use Rattle.book.specs.Book.{freshBook, bookStep}
 use Rattle.book.specs.Session.{answers}
-use Rattle.monitor.specs.Sessions.{Begun, Session}
+use Rattle.book.specs.Batches.{buffers}
+use Rattle.book.specs.Operations.{call, answered}
+use Rattle.stand.specs.Operations.{Ran}
 
 -- sizes added up
 abbrev pub total : List ℕ → ℕ
@@ -21,11 +24,6 @@ callsOf [] ws s b = []
 callsOf (n ∷ ns) [] s b = []
 callsOf (n ∷ ns) (w ∷ ws) s b = record { bytes = take n s; buffer = take w b } ∷ callsOf ns ws (drop n s) (drop w b)
 
--- the buffers after the calls, one after the other
-abbrev pub buffers : List Answer → List ℕ
-buffers [] = []
-buffers (x ∷ xs) = x .buffer ++ buffers xs
-
 -- the answers of the plain book to those calls
 abbrev pub bookAnswers : List ℕ → List ℕ → List ℕ → List ℕ → List Answer
 bookAnswers s ns ws b = answers bookStep freshBook (callsOf ns ws s b)
@@ -37,16 +35,13 @@ pub record Fit (s ns ws b cs : List ℕ) : Type 0 where
   pub sizes : length ns ≡ length ws
   pub numbers : length ns ≡ length cs
 
--- the calls were made in turn on a fresh monitor, by what `new` and `handle` promise: a run of them exists, and these are its answers
-pub record Ran (cs : List Call) (xs : List Answer) : Type 0 where
-  pub first : State
-  pub last : State
-  pub begun : Begun first
-  pub session : Session first cs xs last
+-- the same as a test, of the buffers' lengths
+unfoldable pub allFit : List ℕ → ℕ → List ℕ → ℕ → ℕ → Bool
+allFit ns n ws m k = eqb (total ns) n && (eqb (total ws) m && (eqb (length ns) (length ws) && eqb (length ns) k))
 
 -- demand 3, as a host sees it: there is a run of the calls, and every number and every byte of the reply buffers is the book's
 pub record SessionAnswered (s ns ws lent left told : List ℕ) : Type 0 where
-  pub ran : Ran (callsOf ns ws s lent) (bookAnswers s ns ws lent)
+  pub ran : Ran (map call (callsOf ns ws s lent)) (map answered (bookAnswers s ns ws lent))
   pub numbers : told ≡ map (λ (x : Answer). x .number) (bookAnswers s ns ws lent)
   pub replies : left ≡ buffers (bookAnswers s ns ws lent)
 

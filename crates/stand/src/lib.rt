@@ -2,6 +2,7 @@
 //
 // Every call takes any bytes of any length. Where sizes do not fit it answers 11 and writes nothing.
 mod judging;
+mod operations;
 mod sessions;
 mod sizes;
 
@@ -9,10 +10,12 @@ use judge::judge;
 use judging::SHIFT;
 use judging::after;
 use judging::number_of;
+use operations::all_known;
 use sessions::run;
-use sizes::fits;
+use sizes::all_fit;
 ghost use mathlib.Core.Path.{_≡_};
 ghost use Rattle.stand.specs.Calls.{SessionRun};
+ghost use Rattle.stand.specs.Kinds.{OperationsRun};
 ghost use Rattle.stand.specs.Sheets.{sheetJudged};
 
 // A whole session from a fresh monitor. Call k has the next lengths[k] bytes of `records` as its record and the next sizes[k] bytes of `replies` as its
@@ -27,19 +30,37 @@ pub extern "C" fn stand_session(
 ) -> u32
     ensures { λ r. ⌜ SessionRun (now (records .entry)) (now (lengths .entry)) (now (sizes .entry)) (now (replies .entry)) (now (replies .exit)) (now (numbers .entry)) (now (numbers .exit)) r ⌝ }
 {
-    if !fits(lengths, records.len()) {
+    if !all_fit(records.len(), lengths, replies.len(), sizes, numbers.len()) {
         return 11;
     }
-    if !fits(sizes, replies.len()) {
+    run(b"", records, lengths, replies, sizes, numbers);
+    0
+}
+
+// A whole session of operations from a fresh monitor, single calls and batches. Operation k is a batch where kinds[k] is 1 and a single call where it is 0; it has
+// the next lengths[k] bytes of `records` and the next sizes[k] bytes of `replies`, and its number goes to numbers[k]. Answers 0; or 11, where a kind is another,
+// the counts differ or the sizes do not add up to the buffers.
+#[no_mangle]
+pub extern "C" fn stand_operations(
+    kinds: &[u8],
+    records: &[u8],
+    lengths: &[u32],
+    replies: &mut [u8],
+    sizes: &[u32],
+    numbers: &mut [u8],
+) -> u32
+    ensures { λ r. ⌜ OperationsRun (now (kinds .entry)) (now (records .entry)) (now (lengths .entry)) (now (sizes .entry)) (now (replies .entry)) (now (replies .exit)) (now (numbers .entry)) (now (numbers .exit)) r ⌝ }
+{
+    if !all_known(kinds) {
         return 11;
     }
-    if lengths.len() != sizes.len() {
+    if kinds.len() != lengths.len() {
         return 11;
     }
-    if lengths.len() != numbers.len() {
+    if !all_fit(records.len(), lengths, replies.len(), sizes, numbers.len()) {
         return 11;
     }
-    run(records, lengths, replies, sizes, numbers);
+    run(kinds, records, lengths, replies, sizes, numbers);
     0
 }
 

@@ -1,12 +1,21 @@
 // A whole session.
+use crate::operations::kind_at;
+use crate::operations::operate;
 use crate::sizes::as_length;
-use monitor::handle;
-ghost use Rattle.stand.specs.Calls.{Fit, SessionAnswered};
+ghost use Rattle.stand.specs.Calls.{Fit};
+ghost use Rattle.stand.specs.Kinds.{OperationsAnswered};
 
-// The calls in turn, each on the monitor that the one before left and on its own part of the reply buffer.
-pub fn run(records: &[u8], lengths: &[u32], replies: &mut [u8], sizes: &[u32], numbers: &mut [u8])
+// The operations in turn, each on the monitor that the one before left and on its own part of the reply buffer.
+pub fn run(
+    kinds: &[u8],
+    records: &[u8],
+    lengths: &[u32],
+    replies: &mut [u8],
+    sizes: &[u32],
+    numbers: &mut [u8],
+)
     requires { ⌜ Fit (now records) (now lengths) (now sizes) (now replies) (now numbers) ⌝ }
-    ensures { λ r. ⌜ SessionAnswered (now (records .entry)) (now (lengths .entry)) (now (sizes .entry)) (now (replies .entry)) (now (replies .exit)) (now (numbers .exit)) ⌝ }
+    ensures { λ r. ⌜ OperationsAnswered (now (kinds .entry)) (now (records .entry)) (now (lengths .entry)) (now (sizes .entry)) (now (replies .entry)) (now (replies .exit)) (now (numbers .exit)) ⌝ }
 {
     let mut monitor = monitor::new();
     let mut at = 0;
@@ -15,9 +24,10 @@ pub fn run(records: &[u8], lengths: &[u32], replies: &mut [u8], sizes: &[u32], n
     while k < lengths.len() {
         let end = at + as_length(lengths[k]);
         let past = to + as_length(sizes[k]);
-        let handled = handle(monitor, &records[at..end], &mut replies[to..past]);
-        numbers[k] = handled.number;
-        monitor = handled.monitor;
+        let kind = kind_at(kinds, k);
+        let done = operate(kind, monitor, &records[at..end], &mut replies[to..past]);
+        numbers[k] = done.number;
+        monitor = done.monitor;
         at = end;
         to = past;
         k += 1;

@@ -1,7 +1,7 @@
 // Sizes that a host names beside its buffers.
 ghost use mathlib.Core.Path.{_≡_};
 ghost use lib.Dec.{eqb};
-ghost use Rattle.stand.specs.Calls.{total};
+ghost use Rattle.stand.specs.Calls.{total, allFit};
 
 // A 32-bit size as a length.
 pub fn as_length(n: u32) -> usize
@@ -25,4 +25,26 @@ pub fn fits(sizes: &[u32], len: usize) -> bool
         k += 1;
     }
     left == 0
+}
+
+// Whether the lengths and the sizes are as many as the numbers, and add up to their buffers.
+pub fn all_fit(
+    records: usize,
+    lengths: &[u32],
+    replies: usize,
+    sizes: &[u32],
+    numbers: usize,
+) -> bool
+    ensures { λ r. ⌜ r ≡ allFit (now (lengths .entry)) records (now (sizes .entry)) replies numbers ⌝ }
+{
+    if !fits(lengths, records) {
+        return false;
+    }
+    if !fits(sizes, replies) {
+        return false;
+    }
+    if lengths.len() != sizes.len() {
+        return false;
+    }
+    lengths.len() == numbers
 }

@@ -1,0 +1,57 @@
+-- The whole-session theorem of the code, over operations: whatever is done with a fresh monitor, the numbers and the buffers are those of the plain book.
+-- Assumes nothing.
+use mathlib.Core.Path.{_≡_, refl, sym, ap, _∙_, subst}
+use mathlib.Core.List.{List, [], _∷_, map, map-map}
+use Rattle.follow.specs.declared.state.State.{State}
+use Rattle.book.specs.Decide.{Call, Answer}
+use Rattle.book.specs.Book.{freshBook, bookStep}
+use Rattle.book.specs.MachineSteps.{PositionMachine, freshMachine}
+use Rattle.book.specs.Session.{answers, left, run-end, run-step}
+use Rattle.book.specs.Operations.{Operation, call, batch, Result, answered, machineOperate, bookOperate}
+use Rattle.book.proofs.Runs.{run-answers, run-leaves}
+use Rattle.book.proofs.Whole.{whole-operations, operations-state, operations-sound, calls-alone}
+use Rattle.intake.specs.Represents.{Represents}
+use Rattle.monitor.specs.Sessions.{Begun, Session}
+use Rattle.monitor.proofs.SessionLaws.{call-represents}
+use Rattle.monitor.proofs.OfCode.{KeepsBook}
+use Rattle.batch.proofs.BatchRight.{batch-represents}
+use Rattle.stand.specs.Operations.{OperatedAs, by-call, by-batch, Operated, LeftBy}
+
+-- one operation: the machine's result, and the monitor left represents the machine left
+operated-represents : (m m′ : State) (o : Operation) (r : Result) (t : PositionMachine) → Represents m t → OperatedAs m o r m′ → (r ≡ machineOperate t o .1) × Represents m′ (machineOperate t o .0)
+operated-represents m m′ (call c) (answered a) t rep (by-call h) = let k = call-represents m m′ c a t rep h in (ap answered (k .0), k .1)
+operated-represents m m′ (batch s b) (answered a) t rep (by-batch h) = let k = batch-represents m m′ s b a t rep h in (ap answered (k .0), k .1)
+
+-- DEMAND 3: for every list of operations, each result is the plain book's.
+pub operations-are-book : (m m′ : State) (os : List Operation) (rs : List Result) → Begun m → Operated m os rs m′ → rs ≡ answers bookOperate freshBook os
+operations-are-book m m′ os rs b run = run-answers OperatedAs machineOperate Represents operated-represents freshMachine (b .fresh) run ∙ whole-operations os
+
+-- and the monitor left keeps the book left
+pub left-keeps : (os : List Operation) (m : State) → LeftBy os m → KeepsBook (left bookOperate freshBook os) m
+left-keeps os m l =
+    record {
+      sound = operations-sound os;
+      represents = subst (Represents m) (operations-state os) (run-leaves OperatedAs machineOperate Represents operated-represents freshMachine (l .begun .fresh) (l .session));
+    }
+
+-- SINGLE CALLS ONLY
+
+-- single calls in turn are operations in turn
+pub calls-operated : {m m′ : State} {cs : List Call} {xs : List Answer} → Session m cs xs m′ → Operated m (map call cs) (map answered xs) m′
+calls-operated run-end = run-end
+calls-operated (run-step h run) = run-step (by-call h) (calls-operated run)
+
+abbrev answerOf : Result → Answer
+answerOf (answered a) = a
+
+answers-back : (xs ys : List Answer) → map answered xs ≡ map answered ys → xs ≡ ys
+answers-back xs ys e = sym (back xs) ∙ ap (map answerOf) e ∙ back ys
+  where
+    back : (l : List Answer) → map answerOf (map answered l) ≡ l
+    back [] = refl
+    back (x ∷ l) = ap (λ (k : List Answer). x ∷ k) (back l)
+
+-- "for every list of calls .. each call's number and reply buffer, byte for byte, are those of the plain book": the case of single calls
+pub session-is-book : (m m′ : State) (cs : List Call) (xs : List Answer) → Begun m → Session m cs xs m′ → xs ≡ answers bookStep freshBook cs
+session-is-book m m′ cs xs b run =
+    answers-back xs (answers bookStep freshBook cs) (operations-are-book m m′ (map call cs) (map answered xs) b (calls-operated run) ∙ calls-alone bookStep freshBook cs)
