@@ -21,6 +21,23 @@ uint32_t stand_session(const uint8_t *records, size_t records_len,
                        const uint32_t *sizes, size_t sizes_count,
                        uint8_t *numbers, size_t numbers_count);
 
+/* The kinds of operations. */
+enum { STAND_CALL = 0, STAND_BATCH = 1 };
+
+/* A session of operations from a fresh monitor, each on the monitor that the one before left. Operation k has the next lengths[k] bytes of `records` and
+ * the next sizes[k] bytes of `replies`; its number goes to numbers[k]. By kinds[k] it is
+ *   STAND_CALL   a single call: one record and its reply buffer, of any sizes; the number is 0 when taken, else the refusal's;
+ *   STAND_BATCH  a batch: n records of 128 bytes, n from 0 to 512, and 50 bytes for each reply; the number is 0, whatever the replies say; or 11, with its
+ *                part of `replies` as lent, where the record bytes are not whole records, are over 512 of them, or the reply bytes are not 50 for each.
+ * Returns 0; or 11, with nothing written, where the four counts differ, a kind is another, or the lengths do not add up to records_len, or the sizes to
+ * replies_len. */
+uint32_t stand_operations(const uint8_t *kinds, size_t kinds_count,
+                          const uint8_t *records, size_t records_len,
+                          const uint32_t *lengths, size_t lengths_count,
+                          uint8_t *replies, size_t replies_len,
+                          const uint32_t *sizes, size_t sizes_count,
+                          uint8_t *numbers, size_t numbers_count);
+
 /* The judge: whether the acts of `records` (whole records of 128 bytes, at most 256) match the past of rule `number` (0 is the first) of the monitor that a
  * sheet leaves. The sheet is whole records, handed to a fresh monitor in turn, their replies dropped.
  * Returns 1 for yes, 0 for no; else a refusal's number times 4,294,967,296: 11 where the sheet is not whole records, then 9, 10, 3, 4 or 6. */
