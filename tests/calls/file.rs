@@ -1,16 +1,20 @@
 //! What failed, as text, and back.
 //!
-//! A line is `call RECORD LENT`, `judge SHEET NUMBER RECORDS` or
-//! `misfit RECORDS LENGTHS REPLIES SIZES NUMBERS`. Bytes are in hexadecimal,
-//! other numbers in decimal with commas, `-` for none. Lines that begin with
-//! `#` are for the reader.
+//! A line is `call RECORD LENT`, `batch RECORDS LENT`, `judge SHEET NUMBER RECORDS`,
+//! `misfit RECORDS LENGTHS REPLIES SIZES NUMBERS` or, for operations,
+//! `misfit RECORDS LENGTHS REPLIES SIZES NUMBERS KINDS`. Bytes are in
+//! hexadecimal, other numbers in decimal with commas, `-` for none. Lines that
+//! begin with `#` are for the reader.
 
+use crate::flat::Flat;
 use crate::judging::Question;
-use crate::session::{Call, Flat};
+use crate::operations::{Batch, Operation};
+use crate::plain::book::RECORD;
+use crate::session::Call;
 
 /// One line.
 pub enum Entry {
-    Call(Call),
+    Operation(Operation),
     Judge(Question),
     Misfit(Flat),
 }
@@ -51,10 +55,23 @@ fn undecimal(text: &str) -> Option<Vec<u32>> {
 }
 
 pub fn calls_text(calls: &[Call]) -> String {
+    let calls = calls.iter().cloned().map(Operation::Call);
+    operations_text(&calls.collect::<Vec<_>>())
+}
+
+pub fn operations_text(operations: &[Operation]) -> String {
     let mut text = String::new();
-    for (at, call) in calls.iter().enumerate() {
-        text += &format!("# {} {}\n", at + 1, call.record.escape_ascii());
-        text += &format!("call {} {}\n", hex(&call.record), hex(&call.lent));
+    for (at, operation) in operations.iter().enumerate() {
+        let (records, lent) = operation.bytes();
+        let (word, each) = match operation {
+            Operation::Call(_) => ("call", records.len().max(1)),
+            Operation::Batch(_) => ("batch", RECORD),
+        };
+        text += &format!("# {} {word}\n", at + 1);
+        for record in records.chunks(each) {
+            text += &format!("#   {}\n", record.escape_ascii());
+        }
+        text += &format!("{word} {} {}\n", hex(records), hex(lent));
     }
     text
 }
@@ -66,29 +83,41 @@ pub fn question_text(q: &Question) -> String {
 pub fn misfit_text(f: &Flat) -> String {
     let (records, replies, numbers) = (hex(&f.records), hex(&f.replies), hex(&f.numbers));
     let (lengths, sizes) = (decimal(&f.lengths), decimal(&f.sizes));
-    format!("misfit {records} {lengths} {replies} {sizes} {numbers}\n")
+    let kinds = f.kinds.as_ref().map_or(String::new(), |kinds| hex(kinds));
+    format!("misfit {records} {lengths} {replies} {sizes} {numbers} {kinds}\n")
+}
+
+fn misfit(words: [&str; 5], kinds: Option<Vec<u8>>) -> Option<Entry> {
+    let [records, lengths, replies, sizes, numbers] = words;
+    Some(Entry::Misfit(Flat {
+        kinds,
+        records: unhex(records)?,
+        lengths: undecimal(lengths)?,
+        replies: unhex(replies)?,
+        sizes: undecimal(sizes)?,
+        numbers: unhex(numbers)?,
+    }))
 }
 
 /// The entry of a line, or nothing when it has none of the forms.
 pub fn entry(line: &str) -> Option<Entry> {
     let words: Vec<&str> = line.split_whitespace().collect();
     match words[..] {
-        ["call", record, lent] => Some(Entry::Call(Call {
+        ["call", record, lent] => Some(Entry::Operation(Operation::Call(Call {
             record: unhex(record)?,
             lent: unhex(lent)?,
-        })),
+        }))),
+        ["batch", records, lent] => Some(Entry::Operation(Operation::Batch(Batch {
+            records: unhex(records)?,
+            lent: unhex(lent)?,
+        }))),
         ["judge", sheet, number, records] => Some(Entry::Judge(Question {
             sheet: unhex(sheet)?,
             number: number.parse().ok()?,
             records: unhex(records)?,
         })),
-        ["misfit", records, lengths, replies, sizes, numbers] => Some(Entry::Misfit(Flat {
-            records: unhex(records)?,
-            lengths: undecimal(lengths)?,
-            replies: unhex(replies)?,
-            sizes: undecimal(sizes)?,
-            numbers: unhex(numbers)?,
-        })),
+        ["misfit", a, b, c, d, e] => misfit([a, b, c, d, e], None),
+        ["misfit", a, b, c, d, e, kinds] => misfit([a, b, c, d, e], Some(unhex(kinds)?)),
         _ => None,
     }
 }

@@ -1,7 +1,6 @@
 //! The judge: sheets, rules and lists of records, and what the book and the library answer.
 
 use crate::acts;
-use crate::stand;
 use crate::plain::book::{Book, RECORD};
 use crate::plain::judge::judge;
 use crate::plain::reply;
@@ -10,6 +9,7 @@ use crate::random::Random;
 use crate::session::Call;
 use crate::spell::record;
 use crate::spoil::spoil_bytes;
+use crate::stand;
 
 /// One call of the judge.
 pub struct Question {

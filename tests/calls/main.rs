@@ -1,26 +1,33 @@
 //! Random sessions through the plain book and through the proved monitor,
-//! compared call by call, byte for byte.
+//! compared call by call and operation by operation, byte for byte.
 //!
 //! `calls [COUNT] [SEED]`: at least COUNT calls; fails at the first difference,
 //! and when something that should have occurred didn't.
+//! `calls stored DIRECTORY`: the stored sessions in batches.
 //! `calls replay FILE`: a failing session again.
 
 mod acts;
+mod compare;
+mod cut;
 mod file;
-mod stand;
+mod flat;
 mod judging;
 mod kinds;
 mod language;
 mod misfit;
 mod near;
+mod operations;
 #[path = "../book/plain/mod.rs"]
 mod plain;
 mod random;
+mod refuse;
 mod replay;
 mod session;
 mod spell;
 mod spoil;
 mod stage;
+mod stand;
+mod stored;
 mod tally;
 mod words;
 
@@ -35,7 +42,8 @@ const SEED: u64 = 1;
 fn main() {
     let words: Vec<String> = std::env::args().skip(1).collect();
     let told = match words.first().map(String::as_str) {
-        Some("replay") => replay_file(words.get(1)),
+        Some("replay") => path(words.get(1)).and_then(replay::replay),
+        Some("stored") => path(words.get(1)).and_then(stored::compare_all),
         _ => numbers(&words).and_then(|(count, seed)| run(count, seed)),
     };
     match told {
@@ -47,9 +55,8 @@ fn main() {
     }
 }
 
-fn replay_file(file: Option<&String>) -> Result<String, String> {
-    let file = file.ok_or("calls: give the file to replay")?;
-    replay::replay(Path::new(file))
+fn path(word: Option<&String>) -> Result<&Path, String> {
+    word.map(Path::new).ok_or("calls: give a path".to_string())
 }
 
 /// The count and the seed.
@@ -79,37 +86,15 @@ fn run(count: usize, seed: u64) -> Result<String, String> {
     Ok("calls: no difference".to_string())
 }
 
-/// One session, some questions to the judge about it, and one that doesn't fit.
+/// One session, made and compared.
 fn session(seed: u64, tally: &mut Tally) -> Result<(), String> {
     let number = tally.sessions;
     let (kind, mut stage) = kinds::made(seed, number);
-    let failed = |why: String, text: String| {
-        Err(kept(
-            &format!("seed {seed} session {number} ({})", kind),
-            &why,
-            &text,
-        ))
-    };
-    if let Some(why) = session::difference(&stage.calls, &stage.answers) {
-        return failed(why, file::calls_text(&stage.calls));
-    }
-    for question in judging::questions(&mut stage.random, &stage.calls) {
-        if let Some(why) = judging::difference(&question) {
-            return failed(why, file::question_text(&question));
-        }
-        let records = question.records.len() / plain::book::RECORD;
-        tally.judged(judging::by_book(&question), records);
-    }
-    let misfit = misfit::made(&mut stage.random, &stage.calls);
-    if let Some(why) = misfit::wrong(&misfit) {
-        return failed(why, file::misfit_text(&misfit));
-    }
-    tally.misfit();
     tally.kind(kind);
-    for (call, answer) in stage.calls.iter().zip(&stage.answers) {
-        tally.call(call, answer);
-    }
-    Ok(())
+    compare::compare(number, &mut stage, tally).map_err(|(why, text)| {
+        let which = format!("seed {seed} session {number} ({kind})");
+        kept(&which, &why, &text)
+    })
 }
 
 /// Writes what failed to a file and says where.

@@ -1,7 +1,7 @@
-//! Sessions whose counts or sums don't fit: 11, and nothing written.
+//! Sessions of calls or of operations whose counts, sums or kinds don't fit: 11, and nothing written.
 
+use crate::flat::Flat;
 use crate::random::Random;
-use crate::session::{flat, Call, Flat};
 
 /// One thing that doesn't fit. Sums that fit again after a turn of 32 bits don't fit either.
 fn spoil(random: &mut Random, f: &mut Flat) {
@@ -17,6 +17,8 @@ fn spoil(random: &mut Random, f: &mut Flat) {
             f.lengths.extend([u32::MAX, 1]);
             f.sizes.extend([1, u32::MAX]);
             f.numbers.extend([201, 202]);
+            // As many kinds, so that the sums alone don't fit.
+            f.kinds.iter_mut().for_each(|kinds| kinds.extend([0, 1]));
         }
     }
 }
@@ -31,14 +33,26 @@ fn shift(random: &mut Random, counts: &mut Vec<u32>) {
     counts[at] = counts[at].wrapping_add(by);
 }
 
-/// A session that doesn't fit.
-pub fn made(random: &mut Random, calls: &[Call]) -> Flat {
-    let mut f = flat(calls);
-    spoil(random, &mut f);
+/// A kind too many or too few, or one that is neither of the two.
+fn spoil_kinds(random: &mut Random, kinds: &mut Vec<u8>) {
+    let at = random.below(kinds.len());
+    match random.below(4) {
+        0 => kinds.push(*random.pick(&[0, 1])),
+        1 => drop(kinds.pop()),
+        _ => kinds[at] = *random.pick(&[2, 3, 128, 255]),
+    }
+}
+
+/// What was asked, made so that it doesn't fit.
+pub fn made(random: &mut Random, mut f: Flat) -> Flat {
+    match &mut f.kinds {
+        Some(kinds) if random.chance(40) => spoil_kinds(random, kinds),
+        _ => spoil(random, &mut f),
+    }
     f
 }
 
-/// What is wrong with the answer to a session that doesn't fit.
+/// What is wrong with the answer to what doesn't fit.
 pub fn wrong(f: &Flat) -> Option<String> {
     let (told, replies, numbers) = f.clone().ask();
     if told != 11 {

@@ -14,6 +14,20 @@ extern "C" {
         numbers: *mut u8,
         numbers_len: usize,
     ) -> u32;
+    fn stand_operations(
+        kinds: *const u8,
+        kinds_len: usize,
+        records: *const u8,
+        records_len: usize,
+        lengths: *const u32,
+        lengths_len: usize,
+        replies: *mut u8,
+        replies_len: usize,
+        sizes: *const u32,
+        sizes_len: usize,
+        numbers: *mut u8,
+        numbers_len: usize,
+    ) -> u32;
     fn stand_judge(
         sheet: *const u8,
         sheet_len: usize,
@@ -34,6 +48,33 @@ pub fn session(
     // The call takes any bytes; the pointers and lengths are those of slices.
     unsafe {
         stand_session(
+            records.as_ptr(),
+            records.len(),
+            lengths.as_ptr(),
+            lengths.len(),
+            replies.as_mut_ptr(),
+            replies.len(),
+            sizes.as_ptr(),
+            sizes.len(),
+            numbers.as_mut_ptr(),
+            numbers.len(),
+        )
+    }
+}
+
+/// A session of single calls and batches from a fresh monitor. Gives 0, or 11 with nothing written.
+pub fn operations(
+    kinds: &[u8],
+    records: &[u8],
+    lengths: &[u32],
+    replies: &mut [u8],
+    sizes: &[u32],
+    numbers: &mut [u8],
+) -> u32 {
+    unsafe {
+        stand_operations(
+            kinds.as_ptr(),
+            kinds.len(),
             records.as_ptr(),
             records.len(),
             lengths.as_ptr(),

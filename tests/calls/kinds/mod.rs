@@ -14,7 +14,7 @@ use crate::stage::Stage;
 /// A kind of session: its name, its weight, and what fills the stage.
 type Kind = (&'static str, usize, fn(&mut Stage));
 
-pub static KINDS: [Kind; 13] = [
+pub static KINDS: [Kind; 14] = [
     ("general", 40, general::general),
     ("chains", 10, chains::chains),
     ("committed after 64", 2, chains::committed_64),
@@ -28,6 +28,7 @@ pub static KINDS: [Kind; 13] = [
     ("lengths", 2, lengths::lengths),
     ("bytes", 1, bytes::bytes),
     ("long", 3, long::long),
+    ("longest", 1, long::longest),
 ];
 
 /// The first sessions take each kind once; later ones take them by weight.

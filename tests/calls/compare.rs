@@ -1,0 +1,64 @@
+//! One session through the book and the library: its calls, questions to the judge
+//! about it, the same calls as operations, and some that don't fit.
+
+use crate::cut::cut;
+use crate::file;
+use crate::flat::Flat;
+use crate::judging;
+use crate::misfit;
+use crate::operations;
+use crate::plain::book::RECORD;
+use crate::session;
+use crate::stage::Stage;
+use crate::tally::Tally;
+
+/// Why it failed, and the text by which it is replayed.
+pub type Failed = (String, String);
+
+/// The session of that number, as it was made.
+pub fn compare(number: usize, stage: &mut Stage, tally: &mut Tally) -> Result<(), Failed> {
+    compare_calls(stage, tally)?;
+    compare_judge(stage, tally)?;
+    compare_misfit(stage, session::flat(&stage.calls), tally)?;
+    compare_operations(number, stage, tally)
+}
+
+fn compare_calls(stage: &Stage, tally: &mut Tally) -> Result<(), Failed> {
+    if let Some(why) = session::difference(&stage.calls, &stage.answers) {
+        return Err((why, file::calls_text(&stage.calls)));
+    }
+    for (call, answer) in stage.calls.iter().zip(&stage.answers) {
+        tally.call(call, answer);
+    }
+    Ok(())
+}
+
+fn compare_judge(stage: &mut Stage, tally: &mut Tally) -> Result<(), Failed> {
+    for question in judging::questions(&mut stage.random, &stage.calls) {
+        if let Some(why) = judging::difference(&question) {
+            return Err((why, file::question_text(&question)));
+        }
+        let records = question.records.len() / RECORD;
+        tally.judged(judging::by_book(&question), records);
+    }
+    Ok(())
+}
+
+fn compare_operations(number: usize, stage: &mut Stage, tally: &mut Tally) -> Result<(), Failed> {
+    let operations = cut(&mut stage.random, number, &stage.calls);
+    let answers = operations::by_book(&operations);
+    if let Some(why) = operations::difference(&operations, &answers) {
+        return Err((why, file::operations_text(&operations)));
+    }
+    tally.operations(&operations, &answers);
+    compare_misfit(stage, operations::flat(&operations), tally)
+}
+
+fn compare_misfit(stage: &mut Stage, fitting: Flat, tally: &mut Tally) -> Result<(), Failed> {
+    let misfit = misfit::made(&mut stage.random, fitting);
+    if let Some(why) = misfit::wrong(&misfit) {
+        return Err((why, file::misfit_text(&misfit)));
+    }
+    tally.misfit(&misfit);
+    Ok(())
+}

@@ -1,0 +1,82 @@
+//! Stored sessions through the library in batches, compared with the stored replies.
+//!
+//! The directory has `names.txt`, which lists the sessions one to a line, and
+//! for each NAME the files `NAME.rec` and `NAME.out`.
+
+use std::path::Path;
+
+use crate::cut::evenly;
+use crate::operations::{difference, Operation, MOST};
+use crate::plain::book::RECORD;
+use crate::plain::reply;
+use crate::session::{Answer, Call};
+
+/// Each session is cut into batches of each of these sizes in turn.
+const SIZES: [usize; 4] = [1, 2, 7, MOST];
+
+pub fn compare_all(directory: &Path) -> Result<String, String> {
+    let names = read(&directory.join("names.txt"))?;
+    let names = String::from_utf8_lossy(&names);
+    let mut sessions = 0;
+    let mut replies = 0;
+    for name in names.lines().map(str::trim).filter(|n| !n.is_empty()) {
+        let records = read(&directory.join(format!("{name}.rec")))?;
+        let stored = read(&directory.join(format!("{name}.out")))?;
+        compare(&records, &stored).map_err(|why| format!("calls: {name}: {why}"))?;
+        sessions += 1;
+        replies += stored.len() / reply::LENGTH;
+    }
+    // A list of no sessions would compare nothing and still look well.
+    if sessions == 0 {
+        return Err("calls: names.txt lists no session".to_string());
+    }
+    Ok(format!(
+        "calls: {sessions} stored sessions of {replies} replies, in batches of {SIZES:?}, no difference"
+    ))
+}
+
+fn read(path: &Path) -> Result<Vec<u8>, String> {
+    std::fs::read(path).map_err(|error| format!("calls: {}: {error}", path.display()))
+}
+
+/// One session, in batches of each size.
+fn compare(records: &[u8], stored: &[u8]) -> Result<(), String> {
+    let calls: Vec<Call> = records.chunks(RECORD).map(call).collect();
+    if stored.len() != calls.len() * reply::LENGTH {
+        return Err("not as many replies as records".to_string());
+    }
+    for size in SIZES {
+        let operations = evenly(&calls, size);
+        let due = answers(&operations, stored);
+        if let Some(why) = difference(&operations, &due) {
+            return Err(format!("in batches of {size}: {why}"));
+        }
+    }
+    Ok(())
+}
+
+/// Lent full of a byte no reply has, so that a column left unfilled shows.
+fn call(record: &[u8]) -> Call {
+    Call {
+        record: record.to_vec(),
+        lent: vec![0xAA; reply::LENGTH],
+    }
+}
+
+/// What is due: the stored replies, each operation's part. Batches are taken, and
+/// a single call has a record that is too short.
+fn answers(operations: &[Operation], stored: &[u8]) -> Vec<Answer> {
+    let mut rest = stored;
+    let due = operations.iter().map(|operation| {
+        let (reply, after) = rest.split_at(operation.bytes().1.len());
+        rest = after;
+        Answer {
+            number: match operation {
+                Operation::Call(_) => 2,
+                Operation::Batch(_) => 0,
+            },
+            reply: reply.to_vec(),
+        }
+    });
+    due.collect()
+}

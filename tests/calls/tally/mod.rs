@@ -1,0 +1,92 @@
+//! What was seen, and what must have been seen.
+
+mod batches;
+mod calls;
+mod demanded;
+
+use std::collections::{BTreeMap, BTreeSet};
+
+use crate::flat::Flat;
+use demanded::DEMANDED;
+
+/// How many of the counts go no higher than `most`.
+fn near(counts: &BTreeSet<usize>, most: usize) -> usize {
+    counts.range(..=most).count()
+}
+
+#[derive(Default)]
+pub struct Tally {
+    pub calls: usize,
+    pub sessions: usize,
+    seen: BTreeMap<String, usize>,
+    lengths: BTreeSet<usize>,
+    sizes: BTreeSet<usize>,
+}
+
+impl Tally {
+    fn count(&mut self, what: &str) {
+        *self.seen.entry(what.to_string()).or_default() += 1;
+    }
+
+    pub fn kind(&mut self, name: &str) {
+        self.sessions += 1;
+        self.count(&format!("kind {name}"));
+    }
+
+    /// What was refused as a whole.
+    pub fn misfit(&mut self, misfit: &Flat) {
+        match &misfit.kinds {
+            None => self.count("session that doesn't fit, 11"),
+            Some(kinds) if kinds.iter().any(|&kind| kind > 1) => {
+                self.count("operations with another kind, 11")
+            }
+            Some(_) => self.count("operations that don't fit, 11"),
+        }
+    }
+
+    /// `answer` as the judge gives it: the refusal times 2^32, and 1 for yes.
+    pub fn judged(&mut self, answer: u64, records: usize) {
+        if answer <= 1 && records == 256 {
+            self.count("judge yes or no, of 256 records");
+        }
+        match answer {
+            0 => self.count("judge no"),
+            1 => self.count("judge yes"),
+            _ => self.count(&format!("judge {}", answer >> 32)),
+        }
+    }
+
+    fn times(&self, what: &str) -> usize {
+        self.seen.get(what).copied().unwrap_or(0)
+    }
+
+    pub fn print(&self) {
+        println!("calls: {} calls in {} sessions", self.calls, self.sessions);
+        for (what, times) in &self.seen {
+            if let Some(kind) = what.strip_prefix("kind ") {
+                println!("{times:9}  sessions of the kind {kind}");
+            }
+        }
+        for what in DEMANDED {
+            println!("{:9}  {what}", self.times(what));
+        }
+        println!(
+            "{:9}  record lengths from 0 to 300",
+            near(&self.lengths, 300)
+        );
+        println!("{:9}  reply sizes from 0 to 128", near(&self.sizes, 128));
+    }
+
+    /// What should have occurred and didn't.
+    pub fn missing(&self) -> Vec<String> {
+        let unseen = DEMANDED.iter().filter(|what| self.times(what) == 0);
+        let mut missing: Vec<String> = unseen.map(|what| what.to_string()).collect();
+        if near(&self.lengths, 300) < 301 {
+            missing.push("a record length from 0 to 300".to_string());
+        }
+        if near(&self.sizes, 128) < 129 {
+            missing.push("a reply size from 0 to 128".to_string());
+        }
+        missing
+    }
+}
