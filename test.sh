@@ -1,6 +1,6 @@
 #!/usr/bin/env bash
-# All tests: a plain book written from document 01 alone against the stored sessions and, by random sessions, against the monitor; random pasts against a plain matcher; then every crate
-# proved from nothing, every must-fail edit refused, every program run and compared with its stored output.
+# All tests: a plain book written from document 01 alone against the stored sessions and, by random sessions, call by call and in batches, against the monitor; random pasts against a plain
+# matcher; then every crate proved from nothing, every must-fail edit refused, every program run and compared with its stored output.
 set -eu
 cd "$(dirname "$0")"
 rt fmt --check
@@ -22,12 +22,16 @@ rt staticlib stand
 command -v cc > /dev/null || { apt-get update && apt-get install -y gcc libc6-dev; }
 cc -std=c99 -Wall -Wextra -Werror -O2 -o "$out/header" tests/header/main.c target/staticlib/libstand.a
 "$out/header" crates/session/data/session.rec crates/session/stdout
+cc -std=c99 -Wall -Wextra -Werror -O2 -o "$out/batches" examples/batches.c target/staticlib/libstand.a
+examples/test.sh "$out/batches"
 rustc --edition 2021 -O -L target/staticlib -o "$out/calls" tests/calls/main.rs
+"$out/calls" stored crates/test_sessions/data
 "$out/calls"
 
 # The same with fewer calls, every access to memory watched.
 command -v valgrind > /dev/null || { apt-get update && apt-get install -y valgrind; }
 valgrind --error-exitcode=1 -q "$out/calls" 6000
+valgrind --error-exitcode=1 -q --leak-check=full "$out/batches" crates/test_sessions/data/short-last-record.rec > /dev/null
 rm -rf "$out"
 
 exec rt ci
