@@ -1,4 +1,4 @@
--- The book gives the answers of specs/Examples.antt, computed.
+-- The book gives the answers of specs/Examples.antt and the results of specs/BatchExamples.antt, computed.
 -- Assumes nothing.
 use mathlib.Core.Path.{refl}
 use Rattle.lexer.specs.Class.{classOf, wordy, spacey, marky, allClassed}
@@ -19,8 +19,10 @@ use Rattle.chain.specs.Work.{fillSlot, fill, chain, respond, work, workEvent}
 use Rattle.reply.specs.Reply.{padded, spaced, replyBytes}
 use Rattle.intake.specs.Asked.{isFree, askedLine, askedEvent, askedText, asked}
 use Rattle.book.specs.Decide.{decide, answer}
+use Rattle.book.specs.Batches.{sizesFit}
+use Rattle.book.specs.BatchExamples.{Results, printedBatch, mixed, SizesRight}
 use Rattle.book.specs.Examples.{Answered, printed, sendRun, anewRun, loneAnew, fourHops, fiveHops, refusals, starts, stuck, full}
 
-pub examples-right : Answered printed × Answered sendRun × Answered anewRun × Answered loneAnew × Answered fourHops × Answered fiveHops × Answered refusals × Answered starts × Answered stuck × Answered full
-unfolding classOf wordy spacey marky run kindOf same nameLike digitKind tokensFrom markIs wordIs placeIs wholly itemOf openOf itemsOf simpleOf conditionWith termWith conditionOf patternOf starsOf afterStars begins pastWith sequenceWith factorWith baseWith pastOf slotOf slotsOf templateOf responseOf roleOf headOf tailOf ruleOf namesOf eventOf readLine readEvent itemsNames simpleNames conditionNames patternNames pastNames slotsNames responseNames ruleNames sizePast textOf allClassed kindBy frameOf isBelow itemsMeet termMeets meets pastMeaning fillSlot fill chain respond work workEvent padded spaced replyBytes isFree askedLine askedEvent askedText asked decide answer
-examples-right = (refl, refl, refl, refl, refl, refl, refl, refl, refl, refl)
+pub examples-right : Answered printed × Answered sendRun × Answered anewRun × Answered loneAnew × Answered fourHops × Answered fiveHops × Answered refusals × Answered starts × Answered stuck × Answered full × Results printedBatch × Results mixed × SizesRight
+unfolding classOf wordy spacey marky run kindOf same nameLike digitKind tokensFrom markIs wordIs placeIs wholly itemOf openOf itemsOf simpleOf conditionWith termWith conditionOf patternOf starsOf afterStars begins pastWith sequenceWith factorWith baseWith pastOf slotOf slotsOf templateOf responseOf roleOf headOf tailOf ruleOf namesOf eventOf readLine readEvent itemsNames simpleNames conditionNames patternNames pastNames slotsNames responseNames ruleNames sizePast textOf allClassed kindBy frameOf isBelow itemsMeet termMeets meets pastMeaning fillSlot fill chain respond work workEvent padded spaced replyBytes isFree askedLine askedEvent askedText asked decide answer sizesFit
+examples-right = (refl, refl, refl, refl, refl, refl, refl, refl, refl, refl, refl, refl, refl)

@@ -10,3 +10,4 @@ pub mod Working
 pub mod Kept
 pub mod Text
 pub mod Examples
+pub mod BatchExamples
