@@ -1,12 +1,12 @@
 //! Runs stored sessions through the plain book and compares its replies, byte
 //! for byte, with the stored ones.
 //!
-//! The one argument is a directory with `names.txt`, which lists the sessions
-//! one to a line, and for each NAME the files `NAME.rec` and `NAME.out`.
+//! The one argument is the directory of the sessions (see `stored.rs`).
 
 #![forbid(unsafe_code)]
 
 mod plain;
+mod stored;
 
 use std::path::Path;
 
@@ -27,29 +27,17 @@ fn main() {
     }
 }
 
-/// Every session that `names.txt` lists; stops at the first difference.
+/// Every stored session; stops at the first difference.
 fn compare_all(directory: &Path) -> Result<String, String> {
-    let names = read(&directory.join("names.txt"))?;
-    let names = String::from_utf8_lossy(&names);
-    let mut sessions = 0;
+    let sessions = stored::sessions(directory).map_err(|why| format!("book: {why}"))?;
     let mut replies = 0;
-    for name in names.lines().map(str::trim).filter(|n| !n.is_empty()) {
-        let records = read(&directory.join(format!("{name}.rec")))?;
-        let stored = read(&directory.join(format!("{name}.out")))?;
-        replies += compare(name, &records, &stored)?;
-        sessions += 1;
+    for session in &sessions {
+        replies += compare(&session.name, &session.records, &session.replies)?;
     }
-    // A list of no sessions would compare nothing and still look well.
-    if sessions == 0 {
-        return Err("book: names.txt lists no session".to_string());
-    }
+    let count = sessions.len();
     Ok(format!(
-        "book: {sessions} sessions, {replies} replies, no difference"
+        "book: {count} sessions, {replies} replies, no difference"
     ))
-}
-
-fn read(path: &Path) -> Result<Vec<u8>, String> {
-    std::fs::read(path).map_err(|error| format!("book: {}: {error}", path.display()))
 }
 
 /// One session with a fresh book. Gives how many replies were compared.

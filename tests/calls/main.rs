@@ -28,6 +28,8 @@ mod spoil;
 mod stage;
 mod stand;
 mod stored;
+#[path = "../book/stored.rs"]
+mod stored_sessions;
 mod tally;
 mod words;
 

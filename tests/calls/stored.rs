@@ -1,7 +1,4 @@
 //! Stored sessions through the library in batches, compared with the stored replies.
-//!
-//! The directory has `names.txt`, which lists the sessions one to a line, and
-//! for each NAME the files `NAME.rec` and `NAME.out`.
 
 use std::path::Path;
 
@@ -10,33 +7,23 @@ use crate::operations::{difference, Operation, MOST};
 use crate::plain::book::RECORD;
 use crate::plain::reply;
 use crate::session::{Answer, Call};
+use crate::stored_sessions::sessions;
 
 /// Each session is cut into batches of each of these sizes in turn.
 const SIZES: [usize; 4] = [1, 2, 7, MOST];
 
 pub fn compare_all(directory: &Path) -> Result<String, String> {
-    let names = read(&directory.join("names.txt"))?;
-    let names = String::from_utf8_lossy(&names);
-    let mut sessions = 0;
+    let sessions = sessions(directory).map_err(|why| format!("calls: {why}"))?;
     let mut replies = 0;
-    for name in names.lines().map(str::trim).filter(|n| !n.is_empty()) {
-        let records = read(&directory.join(format!("{name}.rec")))?;
-        let stored = read(&directory.join(format!("{name}.out")))?;
-        compare(&records, &stored).map_err(|why| format!("calls: {name}: {why}"))?;
-        sessions += 1;
-        replies += stored.len() / reply::LENGTH;
+    for session in &sessions {
+        compare(&session.records, &session.replies)
+            .map_err(|why| format!("calls: {}: {why}", session.name))?;
+        replies += session.replies.len() / reply::LENGTH;
     }
-    // A list of no sessions would compare nothing and still look well.
-    if sessions == 0 {
-        return Err("calls: names.txt lists no session".to_string());
-    }
+    let count = sessions.len();
     Ok(format!(
-        "calls: {sessions} stored sessions of {replies} replies, in batches of {SIZES:?}, no difference"
+        "calls: {count} stored sessions of {replies} replies, in batches of {SIZES:?}, no difference"
     ))
-}
-
-fn read(path: &Path) -> Result<Vec<u8>, String> {
-    std::fs::read(path).map_err(|error| format!("calls: {}: {error}", path.display()))
 }
 
 /// One session, in batches of each size.

@@ -3,7 +3,7 @@
 use mathlib.Core.Path.{_≡_, refl, sym, ap, ap₂, _∙_, subst}
 use mathlib.Core.Bool.{true, false}
 use mathlib.Core.List.{List, [], _∷_, _++_, append-assoc, append-nil}
-use Prim.Native.Nat.{ℕ, zero, suc, _+_, _-_, _*_, _/_, _%_, _≤_, _<_}
+use Prim.Native.Nat.{ℕ, zero, suc, _+_, _-_, _*_, _/_, _≤_, _<_}
 use native.Mathlib.Omega.{arith}
 use lib.ListN.{length, take, drop, length-drop}
 use lib.Seq.{length-take-le, drop-drop}
@@ -12,7 +12,7 @@ use Rattle.common.proofs.Bools.{true-not-false}
 use Rattle.follow.specs.declared.state.State.{State}
 use Rattle.book.specs.Decide.{Call, Answer}
 use Rattle.book.specs.Session.{run-end}
-use Rattle.book.specs.Batches.{sizesFit, batchFits, callsIn, batchCalls, buffers}
+use Rattle.book.specs.Batches.{batchFits, callsIn, batchCalls, buffers}
 use Rattle.book.proofs.Runs.{run-last}
 use Rattle.book.proofs.Batches.{buffers-append}
 use Rattle.monitor.specs.Handled.{Handles}

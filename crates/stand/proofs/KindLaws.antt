@@ -2,10 +2,8 @@
 -- Assumes nothing.
 use mathlib.Core.Path.{_≡_, refl, sym, ap, _∙_, subst}
 use mathlib.Core.Bool.{Bool, true, false, not, _&&_}
-use mathlib.Core.List.{List, [], _∷_, _++_, map}
+use mathlib.Core.List.{List, [], _∷_, map}
 use Prim.Native.Nat.{ℕ, _+_, _≤_, _<_}
-use native.Mathlib.Omega.{arith}
-use lib.Dec.{eqb, leb}
 use lib.ListN.{length, take, drop, getD, drop-of-length-le}
 use borrow.Author.Tests.{eq-eqb, ne-eqb, le-leb, lt-leb, not-true, not-false}
 use Rattle.common.proofs.Bools.{true-not-false}
@@ -23,6 +21,7 @@ use Rattle.stand.specs.Operations.{OperatedAs, by-call, by-batch, Ran}
 use Rattle.stand.specs.Calls.{callsOf, bookAnswers, Fit, SessionAnswered, SessionRun}
 use Rattle.stand.specs.Kinds.{operationOf, operationsOf, allKnown, answerOf, bookResults, OperationsFit, OperationsAnswered, OperationsRun}
 use Rattle.stand.proofs.SizeLaws.{drop-here}
+use Rattle.stand.proofs.WholeSession.{answers-back}
 
 -- WHETHER ALL ARE KNOWN
 
@@ -65,10 +64,6 @@ calls-by-kind (n ∷ ns) (w ∷ ws) s b = ap (λ l. call (record { bytes = take 
 
 results-by-kind : (s ns ws b : List ℕ) → bookResults [] s ns ws b ≡ map answered (bookAnswers s ns ws b)
 results-by-kind s ns ws b = ap (answers bookOperate freshBook) (calls-by-kind ns ws s b) ∙ calls-alone bookStep freshBook (callsOf ns ws s b)
-
-answers-back : (xs : List Answer) → map answerOf (map answered xs) ≡ xs
-answers-back [] = refl
-answers-back (x ∷ xs) = ap (λ (l : List Answer). x ∷ l) (answers-back xs)
 
 numbers-back : (xs : List Answer) → map (λ r. answerOf r .number) (map answered xs) ≡ map (λ (x : Answer). x .number) xs
 numbers-back [] = refl

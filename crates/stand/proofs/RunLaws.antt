@@ -5,7 +5,7 @@ use mathlib.Core.List.{List, [], _∷_, _++_, map, append-assoc, append-nil}
 use Prim.Native.Nat.{ℕ, _+_, _-_, _≤_, _<_}
 use native.Mathlib.Omega.{arith}
 use lib.ListN.{length, take, drop, getD, set, length-drop, drop-of-length-le}
-use lib.Seq.{length-take-le, drop-drop, getD-drop, set-append-seam}
+use lib.Seq.{length-take-le, drop-drop, getD-drop}
 use borrow.Rule.Slice.PartMut.{putMid}
 use Rattle.follow.specs.declared.state.State.{State}
 use Rattle.book.specs.Decide.{Answer}

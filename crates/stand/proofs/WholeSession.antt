@@ -1,7 +1,7 @@
 -- The whole-session theorem of the code, over operations: whatever is done with a fresh monitor, the numbers and the buffers are those of the plain book.
 -- Assumes nothing.
 use mathlib.Core.Path.{_≡_, refl, sym, ap, _∙_, subst}
-use mathlib.Core.List.{List, [], _∷_, map, map-map}
+use mathlib.Core.List.{List, [], _∷_, map}
 use Rattle.follow.specs.declared.state.State.{State}
 use Rattle.book.specs.Decide.{Call, Answer}
 use Rattle.book.specs.Book.{freshBook, bookStep}
@@ -16,6 +16,7 @@ use Rattle.monitor.proofs.SessionLaws.{call-represents}
 use Rattle.monitor.proofs.OfCode.{KeepsBook}
 use Rattle.batch.proofs.BatchRight.{batch-represents}
 use Rattle.stand.specs.Operations.{OperatedAs, by-call, by-batch, Operated, LeftBy}
+use Rattle.stand.specs.Kinds.{answerOf}
 
 -- one operation: the machine's result, and the monitor left represents the machine left
 operated-represents : (m m′ : State) (o : Operation) (r : Result) (t : PositionMachine) → Represents m t → OperatedAs m o r m′ → (r ≡ machineOperate t o .1) × Represents m′ (machineOperate t o .0)
@@ -37,21 +38,16 @@ left-keeps os m l =
 -- SINGLE CALLS ONLY
 
 -- single calls in turn are operations in turn
-pub calls-operated : {m m′ : State} {cs : List Call} {xs : List Answer} → Session m cs xs m′ → Operated m (map call cs) (map answered xs) m′
+calls-operated : {m m′ : State} {cs : List Call} {xs : List Answer} → Session m cs xs m′ → Operated m (map call cs) (map answered xs) m′
 calls-operated run-end = run-end
 calls-operated (run-step h run) = run-step (by-call h) (calls-operated run)
 
-abbrev answerOf : Result → Answer
-answerOf (answered a) = a
-
-answers-back : (xs ys : List Answer) → map answered xs ≡ map answered ys → xs ≡ ys
-answers-back xs ys e = sym (back xs) ∙ ap (map answerOf) e ∙ back ys
-  where
-    back : (l : List Answer) → map answerOf (map answered l) ≡ l
-    back [] = refl
-    back (x ∷ l) = ap (λ (k : List Answer). x ∷ k) (back l)
+pub answers-back : (xs : List Answer) → map answerOf (map answered xs) ≡ xs
+answers-back [] = refl
+answers-back (x ∷ xs) = ap (λ (l : List Answer). x ∷ l) (answers-back xs)
 
 -- "for every list of calls .. each call's number and reply buffer, byte for byte, are those of the plain book": the case of single calls
 pub session-is-book : (m m′ : State) (cs : List Call) (xs : List Answer) → Begun m → Session m cs xs m′ → xs ≡ answers bookStep freshBook cs
 session-is-book m m′ cs xs b run =
-    answers-back xs (answers bookStep freshBook cs) (operations-are-book m m′ (map call cs) (map answered xs) b (calls-operated run) ∙ calls-alone bookStep freshBook cs)
+    let e = operations-are-book m m′ (map call cs) (map answered xs) b (calls-operated run) ∙ calls-alone bookStep freshBook cs in
+    sym (answers-back xs) ∙ ap (map answerOf) e ∙ answers-back (answers bookStep freshBook cs)
