@@ -46,6 +46,10 @@ step-same m b h c =
 operate-same : (m : PositionMachine) (b : Book) → Same m b → (o : Operation) → (machineOperate m o .1 ≡ bookOperate b o .1) × Same (machineOperate m o .0) (bookOperate b o .0)
 operate-same = operated-alike machineStep bookStep Same step-same
 
+-- one operation, of a book that operations have left
+pub operation-same : (b : Book) → Sound b → (o : Operation) → machineOperate (machineOf b) o .1 ≡ bookOperate b o .1
+operation-same b s o = operate-same (machineOf b) b (record { sound = s; state = refl }) o .0
+
 operations-same : (os : List Operation) → Same (left machineOperate freshMachine os) (left bookOperate freshBook os)
 operations-same os = left-alike machineOperate bookOperate Same operate-same os freshMachine freshBook fresh-same
 

@@ -42,9 +42,10 @@ use Rattle.judge.specs.Judging.{lentOf, Judged}
 use Rattle.judge.specs.Rows.{VerdictRow, bookRules}
 use Rattle.judge.specs.declared.answers.Verdict.{Verdict}
 use Rattle.judge.proofs.Exactly.{book-judged}
-use Rattle.stand.specs.Operations.{Operated, LeftBy, Ran}
+use Rattle.stand.specs.Operations.{OperatedAs, Operated, LeftBy, Ran}
 use Rattle.stand.specs.Kinds.{OperationsRun}
-use Rattle.stand.proofs.WholeSession.{operations-are-book, left-keeps, session-is-book}
+use Rattle.stand.proofs.WholeSession as whole
+use Rattle.stand.proofs.WholeSession.{left-keeps}
 use Rattle.stand.proofs.HandedOver.{HandedOver, handed-over}
 
 -- the plain book after the operations
@@ -124,13 +125,17 @@ event-no-other os m m′ c a l h = code.code-event (book os) m m′ c a (left-ke
 
 -- Said once, of the list of operations as a whole: every operation's number and buffers are the plain book's, which runs a batch as its records one by one.
 pub whole-session-is-book : (m m′ : State) (os : List Operation) (rs : List Result) → Begun m → Operated m os rs m′ → rs ≡ answers bookOperate freshBook os
-whole-session-is-book = operations-are-book
+whole-session-is-book = whole.operations-are-book
 
 -- the case of single calls only
 pub single-calls-are-book : (m m′ : State) (cs : List Call) (xs : List Answer) → Begun m → Session m cs xs m′ → xs ≡ answers bookStep freshBook cs
-single-calls-are-book = session-is-book
+single-calls-are-book = whole.session-is-book
 
--- one call more: what the theorem says of the last operation of a list, where it is a call
+-- one operation more: what the theorem says of the last of a list
+pub operation-is-book : (os : List Operation) (m m′ : State) (o : Operation) (r : Result) → LeftBy os m → OperatedAs m o r m′ → r ≡ bookOperate (book os) o .1
+operation-is-book = whole.operation-is-book
+
+-- and where it is a single call
 pub call-is-book : (os : List Operation) (m m′ : State) (c : Call) (a : Answer) → LeftBy os m → HandledAs m c a m′ → a ≡ bookStep (book os) c .1
 call-is-book os m m′ c a l h = code.call-is-book (book os) m m′ c a (left-keeps os m l) h
 

@@ -4,12 +4,12 @@ use mathlib.Core.Path.{_≡_, refl, sym, ap, _∙_, subst}
 use mathlib.Core.List.{List, [], _∷_, map}
 use Rattle.follow.specs.declared.state.State.{State}
 use Rattle.book.specs.Decide.{Call, Answer}
-use Rattle.book.specs.Book.{freshBook, bookStep}
-use Rattle.book.specs.MachineSteps.{PositionMachine, freshMachine}
+use Rattle.book.specs.Book.{Book, freshBook, bookStep}
+use Rattle.book.specs.MachineSteps.{PositionMachine, freshMachine, machineOf}
 use Rattle.book.specs.Session.{answers, left, run-end, run-step}
 use Rattle.book.specs.Operations.{Operation, call, batch, Result, answered, machineOperate, bookOperate}
 use Rattle.book.proofs.Runs.{run-answers, run-leaves}
-use Rattle.book.proofs.Whole.{whole-operations, operations-state, operations-sound, calls-alone}
+use Rattle.book.proofs.Whole.{whole-operations, operation-same, operations-state, operations-sound, calls-alone}
 use Rattle.intake.specs.Represents.{Represents}
 use Rattle.monitor.specs.Sessions.{Begun, Session}
 use Rattle.monitor.proofs.SessionLaws.{call-represents}
@@ -34,6 +34,13 @@ left-keeps os m l =
       sound = operations-sound os;
       represents = subst (Represents m) (operations-state os) (run-leaves OperatedAs machineOperate Represents operated-represents freshMachine (l .begun .fresh) (l .session));
     }
+
+-- one operation more: what the theorem says of the last of a list
+pub operation-is-book : (os : List Operation) (m m′ : State) (o : Operation) (r : Result) → LeftBy os m → OperatedAs m o r m′ → r ≡ bookOperate (left bookOperate freshBook os) o .1
+operation-is-book os m m′ o r l h =
+    let b : Book = left bookOperate freshBook os in
+    let k = left-keeps os m l in
+    operated-represents m m′ o r (machineOf b) (k .represents) h .0 ∙ operation-same b (k .sound) o
 
 -- SINGLE CALLS ONLY
 
