@@ -11,9 +11,9 @@ use Rattle.stand.specs.Calls.{total}
 use Rattle.stand.specs.Kinds.{batchKind, operationOf, operationsOf, allKnown, OperationsFit}
 
 -- the kind of an operation, its records and its reply buffer
-abbrev kindOf : Operation → ℕ
-kindOf (call c) = 0
-kindOf (batch s b) = batchKind
+abbrev kindIn : Operation → ℕ
+kindIn (call c) = 0
+kindIn (batch s b) = batchKind
 
 abbrev recordsIn : Operation → List ℕ
 recordsIn (call c) = c .bytes
@@ -43,24 +43,24 @@ pub record HandedOver (os : List Operation) : Type 0 where
   pub operations : operationsOf kinds lengths sizes records replies ≡ os
   pub fit : OperationsFit kinds records lengths sizes replies numbers
 
-one-back : (o : Operation) → operationOf (kindOf o) (recordsIn o) (bufferIn o) ≡ o
+one-back : (o : Operation) → operationOf (kindIn o) (recordsIn o) (bufferIn o) ≡ o
 one-back (call c) = refl
 one-back (batch s b) = refl
 
-all-back : (os : List Operation) → operationsOf (map kindOf os) (sizesOf recordsIn os) (sizesOf bufferIn os) (together recordsIn os) (together bufferIn os) ≡ os
+all-back : (os : List Operation) → operationsOf (map kindIn os) (sizesOf recordsIn os) (sizesOf bufferIn os) (together recordsIn os) (together bufferIn os) ≡ os
 all-back [] = refl
 all-back (o ∷ os) =
-    let ks = map kindOf os in
+    let ks = map kindIn os in
     let ns = sizesOf recordsIn os in
     let ws = sizesOf bufferIn os in
     let s = together recordsIn os in
     let b = together bufferIn os in
-    ap₂ (λ (x y : List ℕ). operationOf (kindOf o) x y ∷ operationsOf ks ns ws (drop (length (recordsIn o)) (recordsIn o ++ s)) (drop (length (bufferIn o)) (bufferIn o ++ b)))
+    ap₂ (λ (x y : List ℕ). operationOf (kindIn o) x y ∷ operationsOf ks ns ws (drop (length (recordsIn o)) (recordsIn o ++ s)) (drop (length (bufferIn o)) (bufferIn o ++ b)))
     (take-append-seam (recordsIn o) s) (take-append-seam (bufferIn o) b)
-    ∙ ap₂ (λ (x y : List ℕ). operationOf (kindOf o) (recordsIn o) (bufferIn o) ∷ operationsOf ks ns ws x y) (drop-append-seam (recordsIn o) s) (drop-append-seam (bufferIn o) b)
+    ∙ ap₂ (λ (x y : List ℕ). operationOf (kindIn o) (recordsIn o) (bufferIn o) ∷ operationsOf ks ns ws x y) (drop-append-seam (recordsIn o) s) (drop-append-seam (bufferIn o) b)
     ∙ ap₂ (λ (p : Operation) (l : List Operation). p ∷ l) (one-back o) (all-back os)
 
-kinds-known : (os : List Operation) → allKnown (map kindOf os) ≡ true
+kinds-known : (os : List Operation) → allKnown (map kindIn os) ≡ true
 unfolding allKnown
 kinds-known [] = refl
 kinds-known (call c ∷ os) = kinds-known os
@@ -76,21 +76,21 @@ as-many f g (o ∷ os) = ap suc (as-many f g os)
 
 pub handed-over : (os : List Operation) → HandedOver os
 handed-over os = record {
-  kinds = map kindOf os;
+  kinds = map kindIn os;
   records = together recordsIn os;
   lengths = sizesOf recordsIn os;
   sizes = sizesOf bufferIn os;
   replies = together bufferIn os;
-  numbers = map kindOf os;
+  numbers = map kindIn os;
   operations = all-back os;
   fit = record {
     known = kinds-known os;
-    kinds = as-many kindOf (λ o. length (recordsIn o)) os;
+    kinds = as-many kindIn (λ o. length (recordsIn o)) os;
     sizes = record {
       records = total-together recordsIn os;
       replies = total-together bufferIn os;
       sizes = as-many (λ o. length (recordsIn o)) (λ o. length (bufferIn o)) os;
-      numbers = as-many (λ o. length (recordsIn o)) kindOf os;
+      numbers = as-many (λ o. length (recordsIn o)) kindIn os;
     };
   };
 }

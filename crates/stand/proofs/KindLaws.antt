@@ -19,7 +19,7 @@ use Rattle.monitor.specs.declared.calls.Handled.{Handled}
 use Rattle.batch.specs.Handled.{BatchHandles}
 use Rattle.stand.specs.Operations.{OperatedAs, by-call, by-batch, Ran}
 use Rattle.stand.specs.Calls.{callsOf, bookAnswers, Fit, SessionAnswered, SessionRun}
-use Rattle.stand.specs.Kinds.{operationOf, operationsOf, allKnown, answerOf, bookResults, OperationsFit, OperationsAnswered, OperationsRun}
+use Rattle.stand.specs.Kinds.{operationOf, operationsOf, allKnown, answerIn, bookResults, OperationsFit, OperationsAnswered, OperationsRun}
 use Rattle.stand.proofs.SizeLaws.{drop-here}
 use Rattle.stand.proofs.WholeSession.{answers-back}
 
@@ -65,7 +65,7 @@ calls-by-kind (n ∷ ns) (w ∷ ws) s b = ap (λ l. call (record { bytes = take 
 results-by-kind : (s ns ws b : List ℕ) → bookResults [] s ns ws b ≡ map answered (bookAnswers s ns ws b)
 results-by-kind s ns ws b = ap (answers bookOperate freshBook) (calls-by-kind ns ws s b) ∙ calls-alone bookStep freshBook (callsOf ns ws s b)
 
-numbers-back : (xs : List Answer) → map (λ r. answerOf r .number) (map answered xs) ≡ map (λ (x : Answer). x .number) xs
+numbers-back : (xs : List Answer) → map (λ r. answerIn r .number) (map answered xs) ≡ map (λ (x : Answer). x .number) xs
 numbers-back [] = refl
 numbers-back (x ∷ xs) = ap (λ (l : List ℕ). x .number ∷ l) (numbers-back xs)
 
@@ -75,8 +75,8 @@ calls-answered s ns ws lent left told h =
     let e = results-by-kind s ns ws lent in
     record {
       ran = subst (λ os. Ran os (map answered (bookAnswers s ns ws lent))) (calls-by-kind ns ws s lent) (subst (Ran (operationsOf [] ns ws s lent)) e (h .ran));
-      numbers = h .numbers ∙ ap (map (λ r. answerOf r .number)) e ∙ numbers-back (bookAnswers s ns ws lent);
-      replies = h .replies ∙ ap (λ rs. buffers (map answerOf rs)) e ∙ ap buffers (answers-back (bookAnswers s ns ws lent));
+      numbers = h .numbers ∙ ap (map (λ r. answerIn r .number)) e ∙ numbers-back (bookAnswers s ns ws lent);
+      replies = h .replies ∙ ap (λ rs. buffers (map answerIn rs)) e ∙ ap buffers (answers-back (bookAnswers s ns ws lent));
     }
 
 -- THE TWO SESSIONS OF THE LIBRARY, by what their tests tell

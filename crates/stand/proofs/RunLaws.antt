@@ -19,15 +19,15 @@ use Rattle.monitor.specs.declared.calls.Handled.{Handled}
 use Rattle.batch.proofs.PartLaws.{Filled, filled-none, part-lent, same-room, filled-more, filled-set, filled-all}
 use Rattle.stand.specs.Operations.{OperatedAs, Operated}
 use Rattle.stand.specs.Calls.{total, Fit}
-use Rattle.stand.specs.Kinds.{operationOf, operationsOf, answerOf, OperationsAnswered}
+use Rattle.stand.specs.Kinds.{operationOf, operationsOf, answerIn, OperationsAnswered}
 use Rattle.stand.proofs.SizeLaws.{total-here, total-end, drop-here}
 use Rattle.stand.proofs.WholeSession.{operations-are-book}
 
 abbrev pub numbersOf : List Result → List ℕ
-numbersOf rs = map (λ (r : Result). answerOf r .number) rs
+numbersOf rs = map (λ (r : Result). answerIn r .number) rs
 
 abbrev pub buffersOf : List Result → List ℕ
-buffersOf rs = buffers (map answerOf rs)
+buffersOf rs = buffers (map answerIn rs)
 
 -- k operations are done: they are a run from a fresh monitor to f, and their results stand in the buffers
 pub record Progress (ks s ns ws b cs : List ℕ) (f : State) (left told : List ℕ) (at to k : ℕ) : Type 0 where
@@ -64,7 +64,7 @@ map-end f [] a = refl
 map-end f (x ∷ l) a = ap (λ r. f x ∷ r) (map-end f l a)
 
 buffers-end : (rs : List Result) (a : Answer) → buffersOf (rs ++ (answered a ∷ [])) ≡ buffersOf rs ++ a .buffer
-buffers-end rs a = ap buffers (map-end answerOf rs (answered a)) ∙ buffers-append (map answerOf rs) (a ∷ []) ∙ ap (λ (l : List ℕ). buffersOf rs ++ l) (append-nil (a .buffer))
+buffers-end rs a = ap buffers (map-end answerIn rs (answered a)) ∙ buffers-append (map answerIn rs) (a ∷ []) ∙ ap (λ (l : List ℕ). buffersOf rs ++ l) (append-nil (a .buffer))
 
 module _ (ks s ns ws b cs : List ℕ) (f : State) (left told : List ℕ) (at to k : ℕ) (p : Progress ks s ns ws b cs f left told at to k) where
   -- the buffers keep their lengths
@@ -123,7 +123,7 @@ module _ (ks s ns ws b cs : List ℕ) (f : State) (left told : List ℕ) (at to 
             done = p .done ++ (answered given ∷ []);
             session = run-last {o = next} {r = answered given} (p .session) (subst (λ (l : List ℕ). OperatedAs f (operationOf (getD ks k 0) (take n (drop at s)) l) (answered given) (r .monitor)) (part-lent b (buffersOf (p .done)) left to (p .replies) w) h);
             operations = p .operations ∙ ap (λ (l : List Operation). p .made ++ l) operations-here ∙ sym (append-assoc (p .made) (next ∷ []) others);
-            numbers = subst (λ (l : List ℕ). Filled cs l (set told k (r .number)) (k + 1)) (sym (map-end (λ (x : Result). answerOf x .number) (p .done) (answered given))) (filled-set cs (numbersOf (p .done)) told k (p .numbers) (r .number) (omega (arith, p .fit .numbers, more)));
+            numbers = subst (λ (l : List ℕ). Filled cs l (set told k (r .number)) (k + 1)) (sym (map-end (λ (x : Result). answerIn x .number) (p .done) (answered given))) (filled-set cs (numbersOf (p .done)) told k (p .numbers) (r .number) (omega (arith, p .fit .numbers, more)));
             replies = subst (λ (l : List ℕ). Filled b l (putMid to w left y) (to + w)) (sym (buffers-end (p .done) given)) (filled-more b (buffersOf (p .done)) left to (p .replies) w y sized);
             records = omega (arith, p .records, total-here k ns more);
             room = omega (arith, p .room, total-here k ws size-there);

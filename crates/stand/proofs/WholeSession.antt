@@ -16,7 +16,7 @@ use Rattle.monitor.proofs.SessionLaws.{call-represents}
 use Rattle.monitor.proofs.OfCode.{KeepsBook}
 use Rattle.batch.proofs.BatchRight.{batch-represents}
 use Rattle.stand.specs.Operations.{OperatedAs, by-call, by-batch, Operated, LeftBy}
-use Rattle.stand.specs.Kinds.{answerOf}
+use Rattle.stand.specs.Kinds.{answerIn}
 
 -- one operation: the machine's result, and the monitor left represents the machine left
 operated-represents : (m m′ : State) (o : Operation) (r : Result) (t : PositionMachine) → Represents m t → OperatedAs m o r m′ → (r ≡ machineOperate t o .1) × Represents m′ (machineOperate t o .0)
@@ -49,7 +49,7 @@ calls-operated : {m m′ : State} {cs : List Call} {xs : List Answer} → Sessio
 calls-operated run-end = run-end
 calls-operated (run-step h run) = run-step (by-call h) (calls-operated run)
 
-pub answers-back : (xs : List Answer) → map answerOf (map answered xs) ≡ xs
+pub answers-back : (xs : List Answer) → map answerIn (map answered xs) ≡ xs
 answers-back [] = refl
 answers-back (x ∷ xs) = ap (λ (l : List Answer). x ∷ l) (answers-back xs)
 
@@ -57,4 +57,4 @@ answers-back (x ∷ xs) = ap (λ (l : List Answer). x ∷ l) (answers-back xs)
 pub session-is-book : (m m′ : State) (cs : List Call) (xs : List Answer) → Begun m → Session m cs xs m′ → xs ≡ answers bookStep freshBook cs
 session-is-book m m′ cs xs b run =
     let e = operations-are-book m m′ (map call cs) (map answered xs) b (calls-operated run) ∙ calls-alone bookStep freshBook cs in
-    sym (answers-back xs) ∙ ap (map answerOf) e ∙ answers-back (answers bookStep freshBook cs)
+    sym (answers-back xs) ∙ ap (map answerIn) e ∙ answers-back (answers bookStep freshBook cs)

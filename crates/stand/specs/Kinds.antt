@@ -35,8 +35,8 @@ allKnown [] = true
 allKnown (k ∷ ks) = leb k batchKind && allKnown ks
 
 -- the number and the buffer of a result
-abbrev pub answerOf : Result → Answer
-answerOf (answered a) = a
+abbrev pub answerIn : Result → Answer
+answerIn (answered a) = a
 
 -- what the plain book hands back, operation by operation
 abbrev pub bookResults : List ℕ → List ℕ → List ℕ → List ℕ → List ℕ → List Result
@@ -51,8 +51,8 @@ pub record OperationsFit (ks s ns ws b cs : List ℕ) : Type 0 where
 -- demand 3, as a host sees it: there is a run of the operations, and every number and every byte of the reply buffers is the book's
 pub record OperationsAnswered (ks s ns ws lent left told : List ℕ) : Type 0 where
   pub ran : Ran (operationsOf ks ns ws s lent) (bookResults ks s ns ws lent)
-  pub numbers : told ≡ map (λ (r : Result). answerOf r .number) (bookResults ks s ns ws lent)
-  pub replies : left ≡ buffers (map answerOf (bookResults ks s ns ws lent))
+  pub numbers : told ≡ map (λ (r : Result). answerIn r .number) (bookResults ks s ns ws lent)
+  pub replies : left ≡ buffers (map answerIn (bookResults ks s ns ws lent))
 
 -- a whole session of operations: the book's results where kinds and sizes fit; else 11, and nothing is written
 pub record OperationsRun (ks s ns ws lent left cs told : List ℕ) (r : ℕ) : Type 0 where
