@@ -16,10 +16,9 @@ use Rattle.common.specs.Limits.{recordSize, replySize}
 use Rattle.book.specs.Decide.{Call, Answer}
 use Rattle.book.specs.Book.{Book, bookDecides, bookStep}
 use Rattle.book.specs.Session.{answers, left}
-use Rattle.book.specs.Batches.{maxBatch, BatchOf, sizesFit, batchFits, callsIn, batchCalls, buffers, batchBy}
-use Rattle.book.specs.Operations.{Operation, call, batch, operated, callsBy, callsMade}
+use Rattle.book.specs.Batches.{maxBatch, BatchOf, sizesFit, batchFits, callsIn, batchCalls, buffers, batchBy, runBatch}
+use Rattle.book.specs.Operations.{batch, callsBy}
 use Rattle.book.proofs.Replies.{answer-length}
-use Rattle.book.proofs.Runs.{left-append}
 
 -- WHEN A BATCH IS TAKEN
 
@@ -46,24 +45,18 @@ fits-exactly s b = (yes, back)
 
 -- WHAT SINGLE CALLS MAKE OF IT
 
+-- the reply buffers of two lists of answers, one after the other
 pub buffers-append : (xs ys : List Answer) → buffers (xs ++ ys) ≡ buffers xs ++ buffers ys
 buffers-append [] ys = refl
 buffers-append (x ∷ xs) ys = ap (λ (l : List ℕ). x .buffer ++ l) (buffers-append xs ys) ∙ sym (append-assoc (x .buffer) (buffers xs) (buffers ys))
 
-module _ {S : Type 0} (step : S → Call → S × Answer) where
-  calls-left : (s : S) (o : Operation) → operated step s o .0 ≡ left step s (callsBy o)
-  calls-left s (call c) = refl
-  calls-left s (batch r b) = go (batchFits r b)
-    where
-      go : (q : Bool) → batchBy q step s r b .0 ≡ left step s (cond q (batchCalls r b) [])
-      go true = refl
-      go false = refl
-
-  -- "Replies and monitor must be those of n single calls in the same order.": what any operations leave is what their single calls leave
-  pub operations-as-calls : (os : List Operation) (s : S) → left (operated step) s os ≡ left step s (callsMade os)
-  operations-as-calls [] s = refl
-  operations-as-calls (o ∷ os) s =
-      operations-as-calls os (operated step s o .0) ∙ ap (λ (x : S). left step x (callsMade os)) (calls-left s o) ∙ sym (left-append step s (callsBy o) (callsMade os))
+-- "Replies and monitor must be those of n single calls in the same order.": a batch leaves what its calls leave, and one that is refused makes none
+pub batch-leaves : {S : Type 0} (step : S → Call → S × Answer) (s : S) (r b : List ℕ) → runBatch step s r b .0 ≡ left step s (callsBy (batch r b))
+batch-leaves step s r b = go (batchFits r b)
+  where
+    go : (q : Bool) → batchBy q step s r b .0 ≡ left step s (cond q (batchCalls r b) [])
+    go true = refl
+    go false = refl
 
 -- EACH REPLY IN ITS OWN 50 BYTES
 
@@ -75,6 +68,7 @@ replies-sized (suc n) s r b h =
     let d = length-drop replySize r in
     (answer-length (bookDecides b c) (take replySize r) (length-take-le replySize r (omega (arith, h))), replies-sized n (drop recordSize s) (drop replySize r) (bookStep b c .0) (omega (arith, h, d)))
 
+-- the buffer of an answer after others
 place-in : (u : List Answer) (x : Answer) (v : List Answer) → All (λ (a : Answer). length (a .buffer) ≡ replySize) (u ++ (x ∷ v))
     → take replySize (drop (length u * replySize) (buffers (u ++ (x ∷ v)))) ≡ x .buffer
 place-in [] x v h = take-at (x .buffer) (buffers v) replySize (h .0)

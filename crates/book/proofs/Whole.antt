@@ -1,82 +1,87 @@
--- Demand 3, over the list as a whole. Document 01, "The full list": "Demand 3 is said of the list of calls as a whole, once".
+-- Demand 3, over the list of operations as a whole. Document 01, "The full list": "Demand 3 is said of the list of calls as a whole, once"; document 02, C-11 and C-12.
 -- Assumes nothing.
-use mathlib.Core.Path.{_≡_, refl, ap, _∙_}
-use mathlib.Core.Bool.{Bool, true, false}
+use mathlib.Core.Path.{_≡_, refl, sym, ap, _∙_}
 use mathlib.Core.List.{List, [], _∷_, map}
-use Prim.Native.Nat.{ℕ}
-use Rattle.book.specs.Decide.{Call, Answer}
+use mathlib.Core.Option.{Option, Option·some-injective}
+use Rattle.book.specs.Decide.{Call}
 use Rattle.book.specs.Book.{Book, freshBook, bookStep}
 use Rattle.book.specs.MachineSteps.{PositionMachine, freshMachine, machineStep, machineOf}
 use Rattle.book.specs.Session.{answers, left}
-use Rattle.book.specs.Batches.{batchFits, batchCalls, buffers, batchBy}
-use Rattle.book.specs.Operations.{Operation, call, batch, Result, answered, operated, bookOperate, machineOperate}
-use Rattle.book.proofs.Agree.{Sound, fresh-sound, step-sound, state-same, answer-same}
+use Rattle.book.specs.Restoring.{restored}
+use Rattle.book.specs.Operations.{Operation, call, restore, Result, answered, replaced, restoredOr, machineOperate}
+use Rattle.book.specs.SessionBook.{SessionBook, freshSession, bookImage, withBook, bookOperate}
+use Rattle.book.proofs.Agree.{Sound}
 use Rattle.book.proofs.Runs.{answers-alike, left-alike}
+use Rattle.book.proofs.Restored.{image-restored}
+pub use Rattle.book.proofs.WholeSteps.{Placed, Proper}
+use Rattle.book.proofs.WholeSteps.{Same, fresh-same, step-same, Alike, fresh-alike, operation-agrees, operate-alike}
 
--- FROM SINGLE CALLS TO OPERATIONS: two machines that answer single calls alike
+-- SESSIONS
 
-module _ {S T : Type 0} (f : S → Call → S × Answer) (g : T → Call → T × Answer) (Alike : S → T → Type 0)
-    (each : (s : S) (t : T) → Alike s t → (c : Call) → (f s c .1 ≡ g t c .1) × Alike (f s c .0) (g t c .0)) where
-  batch-alike : (s : S) (t : T) → Alike s t → (r b : List ℕ) (q : Bool)
-      → (answered (batchBy q f s r b .1) ≡ answered (batchBy q g t r b .1)) × Alike (batchBy q f s r b .0) (batchBy q g t r b .0)
-  batch-alike s t h r b true =
-      (ap (λ (xs : List Answer). answered (record { number = 0; buffer = buffers xs })) (answers-alike f g Alike each (batchCalls r b) s t h), left-alike f g Alike each (batchCalls r b) s t h)
-  batch-alike s t h r b false = (refl, h)
+-- from any session that operations have left
+operations-same : (os : List Operation) (s : SessionBook) → Proper s → answers machineOperate (machineOf (s .book)) os ≡ answers bookOperate s os
+operations-same os s p = answers-alike machineOperate bookOperate Alike operate-alike os (machineOf (s .book)) s (record { proper = p; state = refl })
 
-  pub operated-alike : (s : S) (t : T) → Alike s t → (o : Operation) → (operated f s o .1 ≡ operated g t o .1) × Alike (operated f s o .0) (operated g t o .0)
-  operated-alike s t h (call c) = (ap answered (each s t h c .0), each s t h c .1)
-  operated-alike s t h (batch r b) = batch-alike s t h r b (batchFits r b)
-
--- THE MACHINE AND THE BOOK
-
--- the machine is the book with its list taken to positions, of a book that calls have left
-record Same (m : PositionMachine) (b : Book) : Type 0 where
-  sound : Sound b
-  state : m ≡ machineOf b
-
-fresh-same : Same freshMachine freshBook
-fresh-same = record { sound = fresh-sound; state = refl }
-
-step-same : (m : PositionMachine) (b : Book) → Same m b → (c : Call) → (machineStep m c .1 ≡ bookStep b c .1) × Same (machineStep m c .0) (bookStep b c .0)
-step-same m b h c =
-    let e = h .state in
-    let s = h .sound in
-    (ap (λ (x : PositionMachine). machineStep x c .1) e ∙ answer-same b s c, record { sound = step-sound b s c; state = ap (λ (x : PositionMachine). machineStep x c .0) e ∙ state-same b s c })
-
-operate-same : (m : PositionMachine) (b : Book) → Same m b → (o : Operation) → (machineOperate m o .1 ≡ bookOperate b o .1) × Same (machineOperate m o .0) (bookOperate b o .0)
-operate-same = operated-alike machineStep bookStep Same step-same
-
--- one operation, of a book that operations have left
-pub operation-same : (b : Book) → Sound b → (o : Operation) → machineOperate (machineOf b) o .1 ≡ bookOperate b o .1
-operation-same b s o = operate-same (machineOf b) b (record { sound = s; state = refl }) o .0
-
-operations-same : (os : List Operation) → Same (left machineOperate freshMachine os) (left bookOperate freshBook os)
-operations-same os = left-alike machineOperate bookOperate Same operate-same os freshMachine freshBook fresh-same
+-- what any operations leave
+operations-alike : (os : List Operation) → Alike (left machineOperate freshMachine os) (left bookOperate freshSession os)
+operations-alike os = left-alike machineOperate bookOperate Alike operate-alike os freshMachine freshSession fresh-alike
 
 -- The whole-session theorem: with a number of positions for each rule the results are those of the book, whatever the operations.
-pub whole-operations : (os : List Operation) → answers machineOperate freshMachine os ≡ answers bookOperate freshBook os
-whole-operations os = answers-alike machineOperate bookOperate Same operate-same os freshMachine freshBook fresh-same
+pub whole-operations : (os : List Operation) → answers machineOperate freshMachine os ≡ answers bookOperate freshSession os
+whole-operations os = answers-alike machineOperate bookOperate Alike operate-alike os freshMachine freshSession fresh-alike
 
 -- And the machine that is left is the book's with its list taken to positions.
-pub operations-state : (os : List Operation) → left machineOperate freshMachine os ≡ machineOf (left bookOperate freshBook os)
-operations-state os = operations-same os .state
+pub operations-state : (os : List Operation) → left machineOperate freshMachine os ≡ machineOf (left bookOperate freshSession os .book)
+operations-state os = operations-alike os .state
 
--- What holds of a book after any operations.
-pub operations-sound : (os : List Operation) → Sound (left bookOperate freshBook os)
-operations-sound os = operations-same os .sound
+-- What holds of a session after any operations.
+pub operations-proper : (os : List Operation) → Proper (left bookOperate freshSession os)
+operations-proper os = operations-alike os .proper
+
+-- its book is in order
+pub operations-sound : (os : List Operation) → Sound (left bookOperate freshSession os .book)
+operations-sound os = operations-proper os .now .sound
+
+-- one operation, of a session that operations have left
+pub operation-same : (s : SessionBook) → Proper s → (o : Operation) → machineOperate (machineOf (s .book)) o .1 ≡ bookOperate s o .1
+operation-same s p o = operation-agrees s p o .0
+
+-- AN IMAGE DECIDES WHAT FOLLOWS
+
+-- equal images are of equal machines
+image-machine : (a b : Book) → Placed a → Placed b → bookImage a ≡ bookImage b → machineOf a ≡ machineOf b
+image-machine a b p q e =
+    Option·some-injective (machineOf a) (machineOf b) (sym (image-restored (machineOf a) (p .lasting)) ∙ ap restored e ∙ image-restored (machineOf b) (q .lasting))
+
+-- Two sessions whose books have equal images give equal results to every later list of operations, whatever was kept in them and entered them.
+pub image-determines : (s u : SessionBook) → Proper s → Proper u → bookImage (s .book) ≡ bookImage (u .book) → (os : List Operation) → answers bookOperate s os ≡ answers bookOperate u os
+image-determines s u p q e os =
+    sym (operations-same os s p) ∙ ap (λ (m : PositionMachine). answers machineOperate m os) (image-machine (s .book) (u .book) (p .now) (q .now) e) ∙ operations-same os u q
+
+-- So in any session restoring an image goes on as any book whose image it is, of this session or of another, with its history, from the moment it was kept: which moment is
+-- meant, and whether the session counts as entered, is seen in no result.
+pub restore-goes-on : (s u : SessionBook) → Proper s → Proper u → (os : List Operation) → answers bookOperate s (restore (bookImage (u .book)) ∷ os) ≡ replaced 0 ∷ answers bookOperate u os
+restore-goes-on s u p q os =
+    let m : PositionMachine = machineOf (s .book) in
+    sym (operations-same (restore (bookImage (u .book)) ∷ os) s p)
+    ∙ ap (λ (r : Option PositionMachine). restoredOr m r .1 ∷ answers machineOperate (restoredOr m r .0) os) (image-restored (machineOf (u .book)) (q .now .lasting))
+    ∙ ap (λ (xs : List Result). replaced 0 ∷ xs) (operations-same os u q)
 
 -- SINGLE CALLS ONLY
 
+-- what any calls leave
 calls-same : (cs : List Call) → Same (left machineStep freshMachine cs) (left bookStep freshBook cs)
 calls-same cs = left-alike machineStep bookStep Same step-same cs freshMachine freshBook fresh-same
 
+-- the machine that calls leave is the book's with its list taken to positions
 pub whole-state : (cs : List Call) → left machineStep freshMachine cs ≡ machineOf (left bookStep freshBook cs)
 whole-state cs = calls-same cs .state
 
+-- and the book is in order
 pub book-sound : (cs : List Call) → Sound (left bookStep freshBook cs)
-book-sound cs = calls-same cs .sound
+book-sound cs = calls-same cs .placed .sound
 
 -- a list of single calls, as operations
-pub calls-alone : {S : Type 0} (step : S → Call → S × Answer) (s : S) (cs : List Call) → answers (operated step) s (map call cs) ≡ map answered (answers step s cs)
-calls-alone step s [] = refl
-calls-alone step s (c ∷ cs) = ap (λ (xs : List Result). answered (step s c .1) ∷ xs) (calls-alone step (step s c .0) cs)
+pub calls-alone : (s : SessionBook) (cs : List Call) → answers bookOperate s (map call cs) ≡ map answered (answers bookStep (s .book) cs)
+calls-alone s [] = refl
+calls-alone s (c ∷ cs) = ap (λ (xs : List Result). answered (bookStep (s .book) c .1) ∷ xs) (calls-alone (withBook s (bookStep (s .book) c .0)) cs)

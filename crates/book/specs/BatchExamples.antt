@@ -5,10 +5,10 @@ use mathlib.Core.Bool.{Bool, true, false}
 use mathlib.Core.List.{List, [], _∷_, _++_, map}
 use Prim.Native.Nat.{ℕ}
 use lib.ListN.{take}
-use Rattle.book.specs.Book.{freshBook}
 use Rattle.book.specs.Session.{answers}
 use Rattle.book.specs.Batches.{sizesFit}
-use Rattle.book.specs.Operations.{Operation, call, batch, Result, answered, bookOperate}
+use Rattle.book.specs.Operations.{Operation, call, batch, Result, answered}
+use Rattle.book.specs.SessionBook.{freshSession, bookOperate}
 use Rattle.book.specs.Examples.{Turn, turn, printed}
 
 -- an operation and its result
@@ -42,7 +42,7 @@ refusedBatch s b = record { operation = batch s b; result = answered (record { n
 
 -- a fresh book gives these results
 abbrev pub Results : List Done → Type 0
-Results ds = answers bookOperate freshBook (map (λ (d : Done). d .operation) ds) ≡ map (λ (d : Done). d .result) ds
+Results ds = answers bookOperate freshSession (map (λ (d : Done). d .operation) ds) ≡ map (λ (d : Done). d .result) ds
 
 -- "A session printed", in one batch
 abbrev pub printedBatch : List Done

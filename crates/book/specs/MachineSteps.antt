@@ -1,19 +1,15 @@
 -- The same machine with a number of positions (document 01: marks) for each rule in place of the list of events: the cost of a call does not grow.
 -- Assumes nothing.
-use mathlib.Core.Path.{_≡_}
-use mathlib.Core.List.{List, [], _∷_, map}
+use mathlib.Core.List.{List, map}
+use Prim.Native.Nat.{ℕ}
 use lib.ListN.{drop}
-use Rattle.lexer.specs.Words.{same}
-use Rattle.patterns.specs.Meets.{orderOf, meets}
 use Rattle.positions.specs.Sets.{shares}
-use Rattle.positions.specs.Summaries.{Right}
 use Rattle.follow.specs.Rules.{endsIn}
-use Rattle.follow.specs.Meaning.{pastMeaning}
 pub use Rattle.intake.specs.Machine.{PositionRule, PositionMachine, freshMachine, startNumber, stepNumber, numberAfter, moveOn, withEvent, withRole, withRule}
 use Rattle.chain.specs.Work.{committed, held, unfit, tooLong}
 use Rattle.book.specs.Names.{Event, Roles, Duty, Outcome}
 use Rattle.book.specs.Decide.{Call, Answer, Decision, refused, newRole, newRule, worked, decide, answer}
-use Rattle.book.specs.Book.{Book, Entry}
+use Rattle.book.specs.Book.{Book, Origin, declared, given, Entry}
 
 -- the past matches now where a position held may end it
 abbrev pub machineDuty : PositionRule → Duty
@@ -49,16 +45,15 @@ machineStep m c = (machineNext m (machineDecides m c), answer (machineDecides m 
 
 -- THE BOOK TAKEN TO POSITIONS
 
+-- the positions that a rule has at its start
+abbrev pub firstNumber : Origin → ℕ
+firstNumber declared = startNumber
+firstNumber (given m) = m
+
 -- those after the events since the rule's start
 abbrev pub withPositions : Roles → List Event → Entry → PositionRule
-withPositions rs h x = record { rule = x .rule; positions = numberAfter rs (x .rule .past) startNumber (drop (x .start) h) }
+withPositions rs h x = record { rule = x .rule; positions = numberAfter rs (x .rule .past) (firstNumber (x .origin)) (drop (x .start) h) }
 
 -- every rule of a book with the positions after the list from its start on
 abbrev pub machineOf : Book → PositionMachine
 machineOf b = record { roles = b .roles; rules = map (withPositions (b .roles) (b .history)) (b .rules) }
-
--- "A rule's marks are exactly this set after every call.": rule by rule, the positions are document 01's marks after the events since the rule's start
-pub data Marked (rs : Roles) (h : List Event) : List PositionRule → List Entry → Type 0 where
-  marked-none : Marked rs h [] []
-  marked-more : {f : PositionRule} {x : Entry} {fs : List PositionRule} {xs : List Entry} → f .rule ≡ x .rule
-      → Right (meets (orderOf same rs)) (pastMeaning (x .rule .past)) (drop (x .start) h) (f .positions) → Marked rs h fs xs → Marked rs h (f ∷ fs) (x ∷ xs)

@@ -20,3 +20,4 @@ pub mod Shapes
 pub mod Language
 pub mod RenameLaws
 pub mod Examples
+pub mod RenderedLines

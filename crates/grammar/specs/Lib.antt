@@ -10,3 +10,4 @@ pub mod Parser
 pub mod Readings
 pub mod Lines
 pub mod Text
+pub mod LineText

@@ -2,23 +2,20 @@
 -- Assumes nothing.
 use mathlib.Core.Path.{_≡_, sym, ap, _∙_, subst}
 use mathlib.Core.List.{List, [], _∷_, map}
-use Prim.Native.Nat.{ℕ, zero, suc, _≤_, _<_, _^_}
+use Prim.Native.Nat.{ℕ, zero, suc, _≤_, _<_}
 use native.Mathlib.Omega.{arith}
 use lib.ListN.{getD}
-use Rattle.common.specs.Limits.{maxPatterns, maxRules}
+use Rattle.common.specs.Limits.{maxRules}
 use Rattle.lexer.specs.Words.{same}
 use Rattle.grammar.specs.Trees as trees
 use Rattle.grammar.specs.Rename.{mapPattern}
 use Rattle.grammar.specs.Names.{ruleNames, pastNames, patternNames}
-use Rattle.grammar.specs.AsRead.{Past}
-use Rattle.grammar.specs.Size.{sizePast}
 use Rattle.common.specs.All.{All}
 use Rattle.common.proofs.AllLaws.{all-left}
 use Rattle.patterns.specs.Meets.{meets, orderOf}
 use Rattle.patterns.specs.Judged.{orderIn}
 use Rattle.patterns.proofs.TableNames.{meets-same}
 use Rattle.positions.specs.Summaries.{summary, stepOf}
-use Rattle.positions.proofs.SummaryLaws.{step-number-below}
 use Rattle.follow.specs.Meaning.{pastMeaning}
 use Rattle.follow.specs.Rows.{codeOf}
 use Rattle.follow.specs.Rules.{RuleStepped}
@@ -27,10 +24,10 @@ use Rattle.follow.specs.declared.state.Sheet.{Sheet}
 use Rattle.follow.specs.declared.state.State.{State}
 use Rattle.follow.proofs.MeaningMap.{summary-map}
 use Rattle.follow.proofs.CappedLaws.{capped-small}
-use Rattle.follow.proofs.SizeLaws.{size-meaning}
 use Rattle.intake.specs.Names.{Name, Event, Roles as NamedRoles, Rule}
 use Rattle.intake.specs.Machine.{PositionMachine, PositionRule, stepNumber, moveOn, withEvent}
 use Rattle.intake.specs.Represents.{nameAt, RuleIs, PositionRuleIs, Rules, rules-none, rules-more, Represents}
+use Rattle.intake.proofs.Numbers.{step-within}
 use Rattle.intake.proofs.RuleSizes.{rule-small}
 
 module _ (f : State) (t : PositionMachine) (rep : Represents f t) (e : List ℕ) (es : All (λ i. i < f .sheet .«role_count») e) where
@@ -62,19 +59,12 @@ module _ (f g : State) (t : PositionMachine) (rep : Represents f t) (e : List �
       step-same f t rep e es i (x .rule) (y .rule) (getD (f .positions) i 0) (getD (g .positions) i 0) (c .positions i held)
       ∙ ap (λ (m : ℕ). stepNumber (t .roles) (x .rule .past) m named) (y .positions)
 
-  -- the positions after an event are among 0 .. n
-  step-within : (p : Past) (m : ℕ) → sizePast p ≤ maxPatterns → stepNumber (t .roles) p m named < 2 ^ suc (sizePast p)
-  unfolding stepNumber
-  step-within p m small =
-      let q = size-meaning p in
-      rw q at (step-number-below (pastMeaning p) (omega (arith, q, small)) m (meets (orderOf same (t .roles)) named))
-
   rule-kept : (i : ℕ) (x : PositionRule) → i < f .sheet .«rule_count» → PositionRuleIs f i x → PositionRuleIs g i (moveOn (t .roles) named x)
   rule-kept i x k y =
       record {
         rule = rw (c .sheet) (y .rule);
         positions = stepped i x k y;
-        within = step-within (x .rule .past) (x .positions) (rule-small (f .sheet) i (x .rule) (y .rule));
+        within = step-within (t .roles) (x .rule .past) (x .positions) named (rule-small (f .sheet) i (x .rule) (y .rule));
       }
 
   rules-kept : (k : ℕ) (l : List PositionRule) → k ≤ f .sheet .«rule_count» → Rules f k l → Rules g k (map (moveOn (t .roles) named) l)

@@ -2,7 +2,7 @@
 -- Assumes nothing.
 use mathlib.Core.Path.{_≡_, sym, _∙_, subst}
 use mathlib.Core.List.{List, [], _∷_}
-use Prim.Native.Nat.{ℕ, zero, suc, _≤_, _<_, _^_}
+use Prim.Native.Nat.{ℕ, zero, suc, _≤_, _<_}
 use native.Mathlib.Numerals.{add-one}
 use native.Mathlib.Omega.{arith}
 use lib.ListN.{length, set, getD}
@@ -22,6 +22,7 @@ use Rattle.follow.proofs.StateLaws.{rule-new, rule-old}
 use Rattle.intake.specs.Names.{Rule}
 use Rattle.intake.specs.Machine.{PositionMachine, PositionRule, startNumber, withRule}
 use Rattle.intake.specs.Represents.{nameAt, NameWord, Sized, Naming, Said, RuleIs, Rules, rules-none, rules-more, Represents}
+use Rattle.intake.proofs.Numbers.{start-within}
 
 module _ (f : State) (z : Sized f) (t : PositionMachine) (rep : Represents f t) (rule : kept.Rule) (tree : Tree) (keeps : Keeps rule tree)
     (ids : All (λ k. k < f .sheet .«role_count») (ruleNames (tree .past) (tree .trigger) (tree .response))) (short : Short (tree .response)) (small : sizePast (tree .past) ≤ maxPatterns)
@@ -61,11 +62,6 @@ module _ (f : State) (z : Sized f) (t : PositionMachine) (rep : Represents f t) 
         response = response;
         said = said;
       }
-
-  -- position 0 alone is among 0 .. n
-  start-within : (n : ℕ) → startNumber < 2 ^ suc n
-  start-within zero = omega arith
-  start-within (suc n) = let h = start-within n in omega (arith, h)
 
   rule-kept : (i : ℕ) (q : Rule) → i < s .«rule_count» → RuleIs s i q → RuleIs after i q
   rule-kept i q k x =

@@ -30,7 +30,8 @@ use Rattle.intake.specs.Represents.{nameAt, tableOf, rolesIn, NameWord, 
 use Rattle.intake.proofs.Naming as naming
 use Rattle.intake.proofs.Naming.{word-same}
 
-roles-long : (nm : ℕ → Name) (ps : List ℕ) (n : ℕ) → length (rolesOf nm ps n) ≡ n
+-- as many roles as are held
+pub roles-long : (nm : ℕ → Name) (ps : List ℕ) (n : ℕ) → length (rolesOf nm ps n) ≡ n
 roles-long nm ps zero = refl
 roles-long nm ps (suc n) = ap suc (roles-long nm ps n)
 

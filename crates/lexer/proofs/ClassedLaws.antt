@@ -43,10 +43,15 @@ classed-each (b ∷ s) h i l e = go (eqb (classOf b) 0) refl h i l e (classed-ea
     go false q h zero l e ih = eqb-false (classOf b) 0 q e
     go false q h (suc i) l e ih = ih h i (omega arith) e
 
+-- a byte that has a class in front of such a text
+pub classed-cons : (b : ℕ) (s : List ℕ) → (classOf b ≡ 0 → ⊥) → allClassed s ≡ true → allClassed (b ∷ s) ≡ true
+unfolding allClassed
+classed-cons b s h g = rw (ne-eqb (classOf b) 0 h) g
+
 pub each-classed : (s : List ℕ) → ((i : ℕ) → i < length s → classOf (getD s i 0) ≡ 0 → ⊥) → allClassed s ≡ true
 unfolding allClassed
 each-classed [] h = refl
-each-classed (b ∷ s) h = rw (ne-eqb (classOf b) 0 (h 0 (omega arith))) (each-classed s (λ i l e. h (suc i) (omega arith) e))
+each-classed (b ∷ s) h = classed-cons b s (h 0 (omega arith)) (each-classed s (λ i l e. h (suc i) (omega arith) e))
 
 -- a byte of class 0 is there where not all have a class
 pub classless-some : (s : List ℕ) → allClassed s ≡ false → (i : ℕ) × (i < length s) × (classOf (getD s i 0) ≡ 0)

@@ -7,3 +7,4 @@ pub mod TokenLaws
 pub mod NextLaws
 pub mod KindLaws
 pub mod WordLaws
+pub mod RenderLaws

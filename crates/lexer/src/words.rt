@@ -95,7 +95,7 @@ pub fn first_word(s: &[u8]) -> &[u8]
 }
 
 // Whether two slices hold the same bytes.
-fn same(a: &[u8], k: &[u8]) -> bool
+pub fn same(a: &[u8], k: &[u8]) -> bool
     ensures { λ r. ⌜ r ≡ same (now (a .entry)) (now (k .entry)) ⌝ }
 {
     if a.len() != k.len() {

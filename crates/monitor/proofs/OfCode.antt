@@ -1,5 +1,5 @@
 -- What is said of the book, said of the code: a monitor that keeps a book answers a call as the book does, so each exactness theorem of the book is one of
--- `handle`; and the state's own array holds document 01's marks. A fresh monitor keeps the fresh book, and so on after any operations: that is said where all
+-- `handle`; and the state's own array holds the marks. A fresh monitor keeps the fresh book, and so on after any operations: that is said where all
 -- operations are known (stand, proofs/WholeSession.antt).
 -- Assumes nothing.
 use mathlib.Core.Path.{_≡_, refl, sym, subst, _∙_}
@@ -11,10 +11,8 @@ use native.Mathlib.Omega.{arith}
 use lib.ListN.{drop, getD}
 use Rattle.lexer.specs.Words.{same}
 use Rattle.patterns.specs.Roles.{allHeld}
-use Rattle.patterns.specs.Meets.{orderOf, meets}
-use Rattle.positions.specs.Summaries.{Right}
+use Rattle.patterns.specs.Meets.{orderOf}
 use Rattle.positions.specs.Numbers.{size}
-use Rattle.positions.proofs.Right.{right-matches}
 use Rattle.follow.specs.Meaning.{pastMeaning}
 use Rattle.follow.specs.declared.state.State.{State}
 use Rattle.follow.proofs.SizeLaws.{size-meaning}
@@ -28,10 +26,12 @@ use Rattle.book.specs.Decide.{Call, Answer, refused, outcomeReply}
 use Rattle.book.specs.Book.{Book, Entry, bookDuties, bookStep}
 use Rattle.book.specs.Rows.{Lends, CallRow, Allowed, Full}
 use Rattle.book.specs.Working.{WorkEnds}
-use Rattle.book.specs.MachineSteps.{PositionRule, machineOf, Marked, marked-none, marked-more}
+use Rattle.book.specs.MachineSteps.{PositionRule, machineOf}
+use Rattle.book.specs.Marks.{MarksOf, Marked, marked-none, marked-more}
 use Rattle.book.proofs.Agree.{Sound, answer-same}
 use Rattle.book.proofs.Exactly.{number-exactly, taken-exactly, eight-exactly, event-answered}
 use Rattle.book.proofs.Working.{work-exactly}
+use Rattle.book.proofs.GivenMarks.{marks-match}
 use Rattle.book.proofs.Marks.{book-marked}
 use Rattle.monitor.specs.Marks.{RuleMarked, MarksIn, marks-none, marks-more}
 use Rattle.monitor.specs.Sessions.{HandledAs}
@@ -81,15 +81,12 @@ module _ (b : Book) (m m′ : State) (c : Call) (a : Answer) (k : KeepsBook b m)
 -- MARKS
 
 rule-marked : (f : State) (rs : Roles) (h : List Event) (i : ℕ) (r : PositionRule) (x : Entry) → PositionRuleIs f i r → r .rule ≡ x .rule
-    → Right (meets (orderOf same rs)) (pastMeaning (x .rule .past)) (drop (x .start) h) (r .positions) → RuleMarked f rs h i x
+    → MarksOf rs (x .rule .past) (x .origin) (drop (x .start) h) (r .positions) → RuleMarked f rs h i x
 rule-marked f rs h i r x y e q =
     let past = x .rule .past in
     let small : size (pastMeaning past) ≤ 63 = rw (size-meaning past, ← e) (let z = rule-small (f .sheet) i (r .rule) (y .rule) in omega arith) in
-    let marks : Right (meets (orderOf same rs)) (pastMeaning past) (drop (x .start) h) (getD (f .positions) i 0) = rw (y .positions) q in
-    record {
-      marks = marks;
-      matched = rw (← ends-same (f .sheet) i (r .rule) (y .rule), e) (right-matches (meets (orderOf same rs)) (pastMeaning past) small (drop (x .start) h) (getD (f .positions) i 0) marks 0 (λ p. false));
-    }
+    let marks : MarksOf rs past (x .origin) (drop (x .start) h) (getD (f .positions) i 0) = rw (y .positions) q in
+    record { marks = marks; matched = rw (← ends-same (f .sheet) i (r .rule) (y .rule), e) (marks-match rs past small (x .origin) (drop (x .start) h) (getD (f .positions) i 0) marks) }
 
 marks-in : (f : State) (rs : Roles) (h : List Event) (n : ℕ) (fs : List PositionRule) (xs : List Entry) → Rules f n fs → Marked rs h fs xs → MarksIn f rs h n xs
 marks-in f rs h zero [] [] rules-none marked-none = marks-none

@@ -17,7 +17,8 @@ use Rattle.names.specs.Name.{columnOf, packed}
 use Rattle.names.specs.Shape.{Packable, NameShape}
 use Rattle.names.proofs.ColumnLaws.{packed-same}
 
-within-true : (lo hi b : ℕ) → within lo hi b ≡ true → (lo ≤ b) × (b ≤ hi)
+-- a byte of a range is between its ends
+pub within-true : (lo hi b : ℕ) → within lo hi b ≡ true → (lo ≤ b) × (b ≤ hi)
 within-true lo hi b e = (leb-true lo b (and-left (leb lo b) (leb b hi) e), leb-true b hi (and-right (leb lo b) (leb b hi) e))
 
 -- a byte of a word is a byte, and no space

@@ -1,9 +1,10 @@
 -- THE CUSTOMER'S THREE DEMANDS, as theorems of the code. Every definition that they are made of is found from the imports; each statement is its own sentence's.
 --
--- A session is a list of operations: single calls, and batches of records in one call (document 02, C-11). `LeftBy os m` says that the operations os, done in turn on a
--- fresh monitor by what `new`, `handle` and `handle_batch` promise, left the monitor m. `HandledAs m c a m′` is what `handle` promises of the call c on m, of its answer
--- a and of the monitor m′ that it hands back; `BatchedAs` is what `handle_batch` promises. Both functions are proved for any monitor, any records and any buffer, with no
--- `requires`: they return, stay inside their buffers, and what they hand back has that promise.
+-- A session is a list of operations: single calls, batches of records in one call (document 02, C-11), keeping an image and restoring one (C-12). `LeftBy os m` says that
+-- the operations os, done in turn on a fresh monitor by what `new`, `handle`, `handle_batch`, `keep` and `restore` promise, left the monitor m. `HandledAs m c a m′` is what
+-- `handle` promises of the call c on m, of its answer a and of the monitor m′ that it hands back; `BatchedAs`, `KeptAs` and `RestoredBy` are what `handle_batch`, `keep` and
+-- `restore` promise. The functions are proved for any monitor, any records and any buffer, with no `requires`: they return, stay inside their buffers, and what they hand back
+-- has that promise.
 -- Assumes nothing.
 use mathlib.Core.Path.{_≡_, subst}
 use mathlib.Core.Bool.{true}
@@ -11,7 +12,8 @@ use mathlib.Core.List.{List, _∷_, _++_}
 use mathlib.Core.Logic.{_↔_}
 use Prim.Native.Nat.{ℕ, _*_, _<_}
 use lib.ListN.{length, take, drop}
-use Rattle.common.specs.Limits.{replySize}
+use Rattle.common.specs.All.{All}
+use Rattle.common.specs.Limits.{replySize, recordSize}
 use Rattle.lexer.specs.Words.{same}
 use Rattle.grammar.specs.AsRead.{Line}
 use Rattle.grammar.specs.Lines.{Says}
@@ -19,25 +21,38 @@ use Rattle.grammar.proofs.Language.{single-reading}
 use Rattle.patterns.specs.Roles.{allHeld}
 use Rattle.patterns.specs.Meets.{orderOf}
 use Rattle.follow.specs.declared.state.State.{State}
+use Rattle.intake.specs.Machine.{PositionMachine}
+use Rattle.intake.specs.Represents.{Represents}
 use Rattle.intake.specs.Rows.{SaysEvent}
 use Rattle.chain.specs.Work.{chain}
 use Rattle.book.specs.Names.{Event, Outcome}
 use Rattle.book.specs.Decide.{Call, Answer, refused, outcomeReply}
 use Rattle.book.specs.Book.{Book, freshBook, bookDuties, bookStep}
+use Rattle.book.specs.MachineSteps.{machineOf}
 use Rattle.book.specs.Rows.{Lends, CallRow, Allowed, Full}
 use Rattle.book.specs.Working.{WorkEnds}
-use Rattle.book.specs.Session.{answers, left}
+use Rattle.book.specs.Session.{answers, left, Run}
 use Rattle.book.specs.Batches.{BatchOf, callsIn, buffers}
-use Rattle.book.specs.Operations.{Operation, Result, bookOperate, callsMade}
-use Rattle.book.specs.Kept.{Kept}
-use Rattle.book.proofs.Kept.{events-kept}
-use Rattle.book.proofs.Batches.{operations-as-calls, own-place}
+use Rattle.book.specs.Operations.{Operation, restore, Result, kept, replaced, callsMade}
+use Rattle.book.specs.SessionBook.{SessionBook, freshSession, bookImage, bookOperate}
+use Rattle.book.specs.Accepted.{Accepted}
+use Rattle.book.specs.KeptRows.{KeptRow}
+use Rattle.book.specs.Standing.{Unrestored, Story, Stands}
+use Rattle.book.specs.Readings.{Does}
+use Rattle.book.proofs.Whole.{operations-proper, image-determines, restore-goes-on}
+use Rattle.book.proofs.Standing.{book-story, events-stand, operations-as-calls}
+use Rattle.book.proofs.Readings.{any-reading}
+use Rattle.book.proofs.Batches.{own-place}
 use Rattle.monitor.specs.Handled.{Refused}
 use Rattle.monitor.specs.Sessions.{Begun, HandledAs, Session}
 use Rattle.monitor.specs.Marks.{MarksIn}
 use Rattle.monitor.proofs.OfCode as code
+use Rattle.monitor.proofs.OfCode.{KeepsBook}
 use Rattle.batch.specs.Handled.{BatchedAs}
 use Rattle.batch.proofs.Exactly as batches
+use Rattle.snapshot.specs.Written.{stateImage, KeptAs}
+use Rattle.snapshot.specs.Reading.{RestoredBy}
+use Rattle.snapshot.proofs.Exactly as snapshots
 use Rattle.judge.specs.Judging.{lentOf, Judged}
 use Rattle.judge.specs.Rows.{VerdictRow, bookRules}
 use Rattle.judge.specs.declared.answers.Verdict.{Verdict}
@@ -48,9 +63,12 @@ use Rattle.stand.proofs.WholeSession as whole
 use Rattle.stand.proofs.WholeSession.{left-keeps}
 use Rattle.stand.proofs.HandedOver.{HandedOver, handed-over}
 
--- the plain book after the operations
+-- the plain book of a session after the operations: with the images kept so far, and the book itself
+abbrev pub session : List Operation → SessionBook
+session os = left bookOperate freshSession os
+
 abbrev pub book : List Operation → Book
-book os = left bookOperate freshBook os
+book os = session os .book
 
 -- DEMAND 1. "No record of any bytes or length and no order of calls makes the monitor stop short, read outside its buffers or end half changed. Each malformed
 -- record, wrong name and full table has its fixed refusal, in a fixed order; the monitor is unchanged by it and the reply buffer after it is fixed to the byte."
@@ -76,15 +94,40 @@ batch-taken-by-size = batches.zero-exactly
 pub batch-refusal-changes-nothing : (m m′ : State) (s b : List ℕ) (a : Answer) → BatchedAs m s b a m′ → (a .number ≡ 0 → ⊥) → (a ≡ record { number = 11; buffer = b }) × (m′ ≡ m)
 batch-refusal-changes-nothing = batches.refusal-steady
 
+-- C-12. "13, a lent buffer too short to keep into, looked at first and untouched, 0 records handed back"; else "how many records it wrote, and the rest of the lent buffer is
+-- unchanged": of any monitor at all, by the image of its state; and the monitor is as it was.
+pub keep-of-any-monitor : (m m′ : State) (lent : List ℕ) (n k : ℕ) (b : List ℕ) → KeptAs m lent n k b m′ → KeptRow (stateImage m) lent (kept n k b) × (m′ ≡ m)
+keep-of-any-monitor = snapshots.keep-exactly
+
+-- After any operations the image is that of the plain book.
+pub keep-writes-the-book : (os : List Operation) (m m′ : State) (lent : List ℕ) (n k : ℕ) (b : List ℕ) → LeftBy os m → KeptAs m lent n k b m′ → KeptRow (bookImage (book os)) lent (kept n k b)
+keep-writes-the-book os m m′ lent n k b l h = snapshots.keep-of-machine m m′ lent n k b _ (left-keeps os m l .represents) h
+
+-- "Turned away: 12, an image that isn't whole records, holds a line that a fresh monitor .. would refuse, holds records in another order or of another form .., or whose `M`
+-- records don't name each rule once in order with marks its past has": of any monitor at all, the number is 12 exactly when the image is not accepted, and 0 exactly when it is.
+pub restore-refused-by-image : (m m′ : State) (image : List ℕ) (n : ℕ) → RestoredBy m image n m′ → (n ≡ 12) ↔ ((t : PositionMachine) → Accepted image t → ⊥)
+restore-refused-by-image = snapshots.twelve-exactly
+
+pub restore-taken-by-image : (m m′ : State) (image : List ℕ) (n : ℕ) → RestoredBy m image n m′ → (n ≡ 0) ↔ ((t : PositionMachine) × Accepted image t)
+restore-taken-by-image = snapshots.zero-exactly
+
+-- "monitor unchanged"
+pub restore-refusal-changes-nothing : (m m′ : State) (image : List ℕ) (n : ℕ) → RestoredBy m image n m′ → ((t : PositionMachine) → Accepted image t → ⊥) → (n ≡ 12) × (m′ ≡ m)
+restore-refusal-changes-nothing = snapshots.restore-turns-away
+
+-- "Returning to an image replaces the monitor.": whatever monitor it was, the one handed back represents the machine that the image says.
+pub restore-replaces : (m m′ : State) (image : List ℕ) (n : ℕ) → RestoredBy m image n m′ → (t : PositionMachine) → Accepted image t → (n ≡ 0) × Represents m′ t
+restore-replaces = snapshots.restore-accepts
+
 -- A run exists for every list of operations: there are buffers that hold just these, and whatever `stand_operations` leaves of them (it is proved for any buffers, with
 -- no `requires`, so it returns) shows a run of the operations on a fresh monitor, with the book's results.
 pub every-list-handed-over : (os : List Operation) → HandedOver os
 every-list-handed-over = handed-over
 
-pub every-list-runs : (os : List Operation) (h : HandedOver os) (left told : List ℕ) (r : ℕ)
-    → OperationsRun (h .kinds) (h .records) (h .lengths) (h .sizes) (h .replies) left (h .numbers) told r → (r ≡ 0) × Ran os (answers bookOperate freshBook os)
-every-list-runs os h left told r s =
-    let t = s .taken (h .fit) in (t .0, subst (λ (l : List Operation). Ran l (answers bookOperate freshBook l)) (h .operations) (t .1 .ran))
+pub every-list-runs : (os : List Operation) (h : HandedOver os) (left told counted : List ℕ) (r : ℕ)
+    → OperationsRun (h .kinds) (h .records) (h .lengths) (h .sizes) (h .replies) left (h .numbers) told (h .counts) counted r → (r ≡ 0) × Ran os (answers bookOperate freshSession os)
+every-list-runs os h left told counted r s =
+    let t = s .taken (h .fit) in (t .0, subst (λ (l : List Operation). Ran l (answers bookOperate freshSession l)) (h .operations) (t .1 .ran))
 
 -- DEMAND 2. "A line is taken exactly when the rule language, the name checks and the limits allow it, and it has a single reading. A past matches a list of acts exactly
 -- when Appendix A .. says so. A chain is worked by that paper's steps, last declared first, and ends committed, held, unfit, or too long only when a 65th response would be
@@ -103,7 +146,7 @@ pub one-reading : (s : List ℕ) (l k : Line) → Says s l → Says s k → l �
 one-reading = single-reading
 
 -- After any operations, rule by rule, the state's own array holds exactly document 01's marks of the events since the rule's declaration, and by it the past matches exactly
--- when Appendix A says so of those events.
+-- when Appendix A says so of those events; of a rule that an image from elsewhere brought, the marks that it gave, followed in C-12's words.
 pub marks-of-the-state : (os : List Operation) (m : State) → LeftBy os m → MarksIn m (book os .roles) (book os .history) (m .sheet .«rule_count») (book os .rules)
 marks-of-the-state os m l = code.state-marks (book os) m (left-keeps os m l)
 
@@ -123,8 +166,9 @@ event-no-other os m m′ c a l h = code.code-event (book os) m m′ c a (left-ke
 -- DEMAND 3. "For every list of calls (records of any bytes and length, refused ones too, reply buffers of any size) from a fresh monitor: each call's number and reply
 -- buffer, byte for byte, are those of the plain book that keeps the whole list of committed acts and matches afresh. Said once, of the list of calls as a whole."
 
--- Said once, of the list of operations as a whole: every operation's number and buffers are the plain book's, which runs a batch as its records one by one.
-pub whole-session-is-book : (m m′ : State) (os : List Operation) (rs : List Result) → Begun m → Operated m os rs m′ → rs ≡ answers bookOperate freshBook os
+-- Said once, of the list of operations as a whole: every operation's number, count and buffers are the plain book's, which runs a batch as its records one by one and
+-- remembers which images it has written, each with the book of that moment.
+pub whole-session-is-book : (m m′ : State) (os : List Operation) (rs : List Result) → Begun m → Operated m os rs m′ → rs ≡ answers bookOperate freshSession os
 whole-session-is-book = whole.operations-are-book
 
 -- the case of single calls only
@@ -132,7 +176,7 @@ pub single-calls-are-book : (m m′ : State) (cs : List Call) (xs : List Answer)
 single-calls-are-book = whole.session-is-book
 
 -- one operation more: what the theorem says of the last of a list
-pub operation-is-book : (os : List Operation) (m m′ : State) (o : Operation) (r : Result) → LeftBy os m → OperatedAs m o r m′ → r ≡ bookOperate (book os) o .1
+pub operation-is-book : (os : List Operation) (m m′ : State) (o : Operation) (r : Result) → LeftBy os m → OperatedAs m o r m′ → r ≡ bookOperate (session os) o .1
 operation-is-book = whole.operation-is-book
 
 -- and where it is a single call
@@ -150,14 +194,41 @@ pub reply-in-its-place : (os : List Operation) (n : ℕ) (s b : List ℕ) → Ba
     → take replySize (drop (length u * replySize) (buffers (answers bookStep (book os) (callsIn n s b)))) ≡ x .buffer
 reply-in-its-place os n s b h u x v e = own-place n s b (book os) (h .replies) u x v e
 
--- Its second part: "Take any act in the book's list and any pattern whose roles were all held when that act was committed: the act meets it with the roles held then
--- exactly when it meets it with those held after any later call while it stands in the list." The calls are those that the operations made.
-pub list-stays-true : (os : List Operation) (u : List Event) (e : Event) (v : List Event) → book os .history ≡ u ++ (e ∷ v) → Kept (callsMade os) u e
-list-stays-true os u e v q = events-kept (callsMade os) u e v (subst (λ (x : Book). x .history ≡ u ++ (e ∷ v)) (operations-as-calls bookStep os freshBook) q)
+-- C-12. What keeping wrote on a monitor that any operations left is accepted by any monitor, and gives one that represents the same machine, the book's: so it goes on as
+-- that book does, in this session or in another.
+pub kept-image-goes-back : (os : List Operation) (m m′ : State) (lent : List ℕ) (n k : ℕ) (b : List ℕ) → LeftBy os m → KeptAs m lent n k b m′ → n ≡ 0
+    → (u u′ : State) (j : ℕ) → RestoredBy u (take (k * recordSize) b) j u′ → (j ≡ 0) × KeepsBook (book os) u′
+kept-image-goes-back os m m′ lent n k b l h z u u′ j r =
+    let q = left-keeps os m l in
+    let t = snapshots.round-trip m m′ lent n k b (machineOf (book os)) (q .represents) (operations-proper os .now .lasting) h z u u′ j r in
+    (t .0, record { sound = q .sound; represents = t .1 })
 
--- and the book that the operations leave is the one that those calls leave
-pub operations-are-calls : (os : List Operation) → book os ≡ left bookStep freshBook (callsMade os)
-operations-are-calls os = operations-as-calls bookStep os freshBook
+-- The same of the book, over every list of later operations, with its history: after any operations, restoring the image of the book of any session goes on as that session.
+pub restored-session-goes-on : (os ps qs : List Operation) → answers bookOperate (session os) (restore (bookImage (book ps)) ∷ qs) ≡ replaced 0 ∷ answers bookOperate (session ps) qs
+restored-session-goes-on os ps qs = restore-goes-on (session os) (session ps) (operations-proper os) (operations-proper ps) qs
+
+-- An image decides the future: two sessions whose books have equal images answer every later list of operations alike. So it does not matter which moment is meant where the
+-- same bytes were kept twice.
+pub image-decides : (os ps : List Operation) → bookImage (book os) ≡ bookImage (book ps) → (qs : List Operation) → answers bookOperate (session os) qs ≡ answers bookOperate (session ps) qs
+image-decides os ps = image-determines (session os) (session ps) (operations-proper os) (operations-proper ps)
+
+-- and whichever way C-12 is read where it leaves that open, the results are these
+pub readings-alike : (os : List Operation) (rs : List Result) (s : SessionBook) → Run Does freshSession os rs s → rs ≡ answers bookOperate freshSession os
+readings-alike = any-reading
+
+-- Its second part: "Take any act in the book's list and any pattern whose roles were all held when that act was committed: the act meets it with the roles held then
+-- exactly when it meets it with those held after any later call while it stands in the list." The calls are some of those that the operations made: where an image was
+-- restored, "later acts are forgotten".
+pub list-stays-true : (os : List Operation) (u : List Event) (e : Event) (v : List Event) → book os .history ≡ u ++ (e ∷ v) → Stands (callsMade os) (book os) u e
+list-stays-true = events-stand
+
+-- the book that operations leave is what some of their calls leave, in order, on a fresh book or on that of an image from elsewhere
+pub operations-are-some-calls : (os : List Operation) → Story (callsMade os) (book os)
+operations-are-some-calls = book-story
+
+-- and where nothing was restored, what all of them leave on a fresh book
+pub operations-are-calls : (os : List Operation) → All Unrestored os → book os ≡ left bookStep freshBook (callsMade os)
+operations-are-calls os = operations-as-calls os freshSession
 
 -- THE JUDGE. "The judge checks 9, then 10, then its records in turn by 3, 4 and 6; the first refusal found is its answer. It otherwise says yes or no": after any
 -- operations, by the roles and the rules of the book left, whatever the rules have seen.

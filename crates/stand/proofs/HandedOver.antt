@@ -6,22 +6,28 @@ use mathlib.Core.List.{List, [], _∷_, _++_, map}
 use Prim.Native.Nat.{ℕ, suc, _+_}
 use lib.ListN.{length, drop, length-append}
 use lib.Seq.{take-append-seam, drop-append-seam}
-use Rattle.book.specs.Operations.{Operation, call, batch}
+use Rattle.book.specs.Operations.{Operation, call, batch, keep, restore}
 use Rattle.stand.specs.Calls.{total}
-use Rattle.stand.specs.Kinds.{batchKind, operationOf, operationsOf, allKnown, OperationsFit}
+use Rattle.stand.specs.Kinds.{batchKind, keepKind, restoreKind, operationOf, operationsOf, allKnown, OperationsFit}
 
 -- the kind of an operation, its records and its reply buffer
 abbrev kindIn : Operation → ℕ
 kindIn (call c) = 0
 kindIn (batch s b) = batchKind
+kindIn (keep b) = keepKind
+kindIn (restore s) = restoreKind
 
 abbrev recordsIn : Operation → List ℕ
 recordsIn (call c) = c .bytes
 recordsIn (batch s b) = s
+recordsIn (keep b) = []
+recordsIn (restore s) = s
 
 abbrev bufferIn : Operation → List ℕ
 bufferIn (call c) = c .buffer
 bufferIn (batch s b) = b
+bufferIn (keep b) = b
+bufferIn (restore s) = []
 
 -- the operations' parts, one after the other
 abbrev together : (Operation → List ℕ) → List Operation → List ℕ
@@ -40,12 +46,15 @@ pub record HandedOver (os : List Operation) : Type 0 where
   pub sizes : List ℕ
   pub replies : List ℕ
   pub numbers : List ℕ
+  pub counts : List ℕ
   pub operations : operationsOf kinds lengths sizes records replies ≡ os
-  pub fit : OperationsFit kinds records lengths sizes replies numbers
+  pub fit : OperationsFit kinds records lengths sizes replies numbers counts
 
 one-back : (o : Operation) → operationOf (kindIn o) (recordsIn o) (bufferIn o) ≡ o
 one-back (call c) = refl
 one-back (batch s b) = refl
+one-back (keep b) = refl
+one-back (restore s) = refl
 
 all-back : (os : List Operation) → operationsOf (map kindIn os) (sizesOf recordsIn os) (sizesOf bufferIn os) (together recordsIn os) (together bufferIn os) ≡ os
 all-back [] = refl
@@ -65,6 +74,8 @@ unfolding allKnown
 kinds-known [] = refl
 kinds-known (call c ∷ os) = kinds-known os
 kinds-known (batch s b ∷ os) = kinds-known os
+kinds-known (keep b ∷ os) = kinds-known os
+kinds-known (restore s ∷ os) = kinds-known os
 
 total-together : (part : Operation → List ℕ) (os : List Operation) → total (sizesOf part os) ≡ length (together part os)
 total-together part [] = refl
@@ -82,10 +93,12 @@ handed-over os = record {
   sizes = sizesOf bufferIn os;
   replies = together bufferIn os;
   numbers = map kindIn os;
+  counts = map kindIn os;
   operations = all-back os;
   fit = record {
     known = kinds-known os;
     kinds = as-many kindIn (λ o. length (recordsIn o)) os;
+    counts = as-many kindIn (λ o. length (recordsIn o)) os;
     sizes = record {
       records = total-together recordsIn os;
       replies = total-together bufferIn os;

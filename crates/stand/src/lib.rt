@@ -33,13 +33,14 @@ pub extern "C" fn stand_session(
     if !all_fit(records.len(), lengths, replies.len(), sizes, numbers.len()) {
         return 11;
     }
-    run(b"", records, lengths, replies, sizes, numbers);
+    let mut none: [u32; 0] = [];
+    run(b"", records, lengths, replies, sizes, numbers, &mut none);
     0
 }
 
-// A whole session of operations from a fresh monitor, single calls and batches. Operation k is a batch where kinds[k] is 1 and a single call where it is 0; it has
-// the next lengths[k] bytes of `records` and the next sizes[k] bytes of `replies`, and its number goes to numbers[k]. Answers 0; or 11, where a kind is another,
-// the counts differ or the sizes do not add up to the buffers.
+// A whole session of operations from a fresh monitor. Operation k is a single call where kinds[k] is 0, a batch where it is 1, keeping where it is 2 and restoring where it is
+// 3; it has the next lengths[k] bytes of `records` and the next sizes[k] bytes of `replies`, its number goes to numbers[k] and how many records keeping wrote to counts[k].
+// Keeping looks at no record, and restoring writes no reply. Answers 0; or 11, where a kind is another, the counts differ or the sizes do not add up to the buffers.
 #[no_mangle]
 pub extern "C" fn stand_operations(
     kinds: &[u8],
@@ -48,8 +49,9 @@ pub extern "C" fn stand_operations(
     replies: &mut [u8],
     sizes: &[u32],
     numbers: &mut [u8],
+    counts: &mut [u32],
 ) -> u32
-    ensures { λ r. ⌜ OperationsRun (now (kinds .entry)) (now (records .entry)) (now (lengths .entry)) (now (sizes .entry)) (now (replies .entry)) (now (replies .exit)) (now (numbers .entry)) (now (numbers .exit)) r ⌝ }
+    ensures { λ r. ⌜ OperationsRun (now (kinds .entry)) (now (records .entry)) (now (lengths .entry)) (now (sizes .entry)) (now (replies .entry)) (now (replies .exit)) (now (numbers .entry)) (now (numbers .exit)) (now (counts .entry)) (now (counts .exit)) r ⌝ }
 {
     if !all_known(kinds) {
         return 11;
@@ -57,10 +59,13 @@ pub extern "C" fn stand_operations(
     if kinds.len() != lengths.len() {
         return 11;
     }
+    if counts.len() != lengths.len() {
+        return 11;
+    }
     if !all_fit(records.len(), lengths, replies.len(), sizes, numbers.len()) {
         return 11;
     }
-    run(kinds, records, lengths, replies, sizes, numbers);
+    run(kinds, records, lengths, replies, sizes, numbers, counts);
     0
 }
 

@@ -1,6 +1,7 @@
 // A whole session.
 use crate::operations::kind_at;
 use crate::operations::operate;
+use crate::operations::put_count;
 use crate::sizes::as_length;
 ghost use Rattle.stand.specs.Calls.{Fit};
 ghost use Rattle.stand.specs.Kinds.{OperationsAnswered};
@@ -13,9 +14,10 @@ pub fn run(
     replies: &mut [u8],
     sizes: &[u32],
     numbers: &mut [u8],
+    counts: &mut [u32],
 )
     requires { ⌜ Fit (now records) (now lengths) (now sizes) (now replies) (now numbers) ⌝ }
-    ensures { λ r. ⌜ OperationsAnswered (now (kinds .entry)) (now (records .entry)) (now (lengths .entry)) (now (sizes .entry)) (now (replies .entry)) (now (replies .exit)) (now (numbers .exit)) ⌝ }
+    ensures { λ r. ⌜ OperationsAnswered (now (kinds .entry)) (now (records .entry)) (now (lengths .entry)) (now (sizes .entry)) (now (replies .entry)) (now (replies .exit)) (now (numbers .exit)) (now (counts .entry)) (now (counts .exit)) ⌝ }
 {
     let mut monitor = monitor::new();
     let mut at = 0;
@@ -27,6 +29,7 @@ pub fn run(
         let kind = kind_at(kinds, k);
         let done = operate(kind, monitor, &records[at..end], &mut replies[to..past]);
         numbers[k] = done.number;
+        put_count(counts, k, done.count);
         monitor = done.monitor;
         at = end;
         to = past;

@@ -10,13 +10,13 @@ returns : tie.Need-returns
 returns c = session-refused _ _ _ _ _ (unfit-told _ _ _ _ _ _ (c .before .all-fit .ensures) (c .if1 .taken))
 
 run-requires : tie.Need-run-requires
-run-requires c κs = let e = c .before .before .before in fit-told _ _ _ _ _ _ (e .before .all-fit .ensures) (e .if1 .left)
+run-requires c κs = let e = c .before .before .before .before in fit-told _ _ _ _ _ _ (e .before .all-fit .ensures) (e .if1 .left)
 
 returns-2 : tie.Need-returns-2
 returns-2 c =
-    let r = c .before .before .before .before in
-    let e = r .before .before .before .before in
-    session-taken _ _ _ _ _ _ _ (fit-told _ _ _ _ _ _ (e .before .all-fit .ensures) (e .if1 .left)) (r .run .ensures)
+    let r = c .before .before .before .before .before in
+    let e = r .before .before .before .before .before in
+    session-taken _ _ _ _ _ _ _ _ _ (fit-told _ _ _ _ _ _ (e .before .all-fit .ensures) (e .if1 .left)) (r .run .ensures)
 
 pub stand-session-spec : {M : Type 1} → statement M
 stand-session-spec =
@@ -24,6 +24,7 @@ stand-session-spec =
     (tie.spec
     (λ c κs. search needs)
     returns
+    (λ c. search needs)
     (λ c. search needs)
     run-requires
     (λ c. search needs)

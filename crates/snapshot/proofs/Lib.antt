@@ -1,0 +1,12 @@
+pub mod DigitLaws
+pub mod MarkLaws
+pub mod WrittenLaws
+pub mod KeepLaws
+pub mod StateImage
+pub mod LineLaws
+pub mod LinesLaws
+pub mod TakingLaws
+pub mod GivenLaws
+pub mod ImageLaws
+pub mod SnapshotRight
+pub mod Exactly
