@@ -22,21 +22,33 @@ uint32_t stand_session(const uint8_t *records, size_t records_len,
                        uint8_t *numbers, size_t numbers_count);
 
 /* The kinds of operations. */
-enum { STAND_CALL = 0, STAND_BATCH = 1 };
+enum { STAND_CALL = 0, STAND_BATCH = 1, STAND_KEEP = 2, STAND_RESTORE = 3 };
+
+/* An image is the monitor written out in records of 128 bytes: the role lines in declared order without top, the rule lines in declared order, then for each
+ * rule a record of its marks. It has at most 63 + 32 + 32 records; so a buffer of this many bytes is never too short to keep into. */
+enum { STAND_IMAGE_MOST = 16256 };
 
 /* A session of operations from a fresh monitor, each on the monitor that the one before left. Operation k has the next lengths[k] bytes of `records` and
- * the next sizes[k] bytes of `replies`; its number goes to numbers[k]. By kinds[k] it is
- *   STAND_CALL   a single call: one record and its reply buffer, of any sizes; the number is 0 when taken, else the refusal's;
- *   STAND_BATCH  a batch: n records of 128 bytes, n from 0 to 512, and 50 bytes for each reply; the number is 0, whatever the replies say; or 11, with its
- *                part of `replies` as lent, where the record bytes are not whole records, are over 512 of them, or the reply bytes are not 50 for each.
- * Returns 0; or 11, with nothing written, where the four counts differ, a kind is another, or the lengths do not add up to records_len, or the sizes to
+ * the next sizes[k] bytes of `replies`; its number goes to numbers[k], and how many records keeping wrote to counts[k] (0 for the other kinds and for keeping
+ * that is refused). By kinds[k] it is
+ *   STAND_CALL     a single call: one record and its reply buffer, of any sizes; the number is 0 when taken, else the refusal's;
+ *   STAND_BATCH    a batch: n records of 128 bytes, n from 0 to 512, and 50 bytes for each reply; the number is 0, whatever the replies say; or 11, with
+ *                  its part of `replies` as lent, where the record bytes are not whole records, are over 512 of them, or the reply bytes are not 50 for each;
+ *   STAND_KEEP     keeping: the image of the monitor is written to the front of its part of `replies`, the rest of that part stays as lent, and the number is
+ *                  0; or 13, with its part as lent, where that is too short. The monitor stays as it is. Its part of `records` is not looked at;
+ *   STAND_RESTORE  restoring: its part of `records` is an image, the monitor becomes the one written there, and the number is 0; or 12, with the monitor as
+ *                  it was, where the bytes are not whole records, a fresh monitor would refuse one of the lines, the records are of another order or form
+ *                  (spaces within lines may differ), or those of marks do not name each rule once in order with marks that its past has. Its part of
+ *                  `replies` stays as lent.
+ * Returns 0; or 11, with nothing written, where the five counts differ, a kind is another, or the lengths do not add up to records_len, or the sizes to
  * replies_len. */
 uint32_t stand_operations(const uint8_t *kinds, size_t kinds_count,
                           const uint8_t *records, size_t records_len,
                           const uint32_t *lengths, size_t lengths_count,
                           uint8_t *replies, size_t replies_len,
                           const uint32_t *sizes, size_t sizes_count,
-                          uint8_t *numbers, size_t numbers_count);
+                          uint8_t *numbers, size_t numbers_count,
+                          uint32_t *counts, size_t counts_count);
 
 /* The judge: whether the acts of `records` (whole records of 128 bytes, at most 256) match the past of rule `number` (0 is the first) of the monitor that a
  * sheet leaves. The sheet is whole records, handed to a fresh monitor in turn, their replies dropped.

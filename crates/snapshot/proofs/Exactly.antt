@@ -4,12 +4,13 @@ use mathlib.Core.Path.{_≡_, refl, sym, ap, _∙_, subst}
 use mathlib.Core.Logic.{_↔_}
 use mathlib.Core.List.{List, []}
 use mathlib.Core.Option.{Option, none, some}
-use Prim.Native.Nat.{ℕ, _*_}
+use Prim.Native.Nat.{ℕ, _*_, _≤_}
 use native.Mathlib.Omega.{arith}
-use lib.ListN.{take}
+use lib.ListN.{length, take}
 use lib.Seq.{take-at}
-use Rattle.common.specs.Limits.{recordSize}
+use Rattle.common.specs.Limits.{recordSize, maxRoles, maxRules}
 use Rattle.follow.specs.declared.state.State.{State}
+use Rattle.follow.proofs.CappedLaws.{capped-le}
 use Rattle.intake.specs.Machine.{PositionMachine}
 use Rattle.intake.specs.Represents.{Represents}
 use Rattle.book.specs.Images.{imageOf}
@@ -28,6 +29,12 @@ use Rattle.snapshot.proofs.StateImage.{image-of-state}
 
 -- KEEPING
 
+-- the number of a result
+abbrev numberIn : Result → ℕ
+numberIn (answered a) = a .number
+numberIn (kept n k b) = n
+numberIn (replaced n) = n
+
 -- Of any monitor at all: what is handed back is what C-12 says of that state's image, and the monitor is as it was.
 pub keep-exactly : (m m′ : State) (lent : List ℕ) (n k : ℕ) (b : List ℕ) → KeptAs m lent n k b m′ → KeptRow (stateImage m) lent (kept n k b) × (m′ ≡ m)
 keep-exactly m m′ lent n k b h =
@@ -36,6 +43,21 @@ keep-exactly m m′ lent n k b h =
 -- and of one that represents a machine, of that machine's image
 pub keep-of-machine : (m m′ : State) (lent : List ℕ) (n k : ℕ) (b : List ℕ) (t : PositionMachine) → Represents m t → KeptAs m lent n k b m′ → KeptRow (imageOf t) lent (kept n k b)
 keep-of-machine m m′ lent n k b t rep h = subst (λ (image : List ℕ). KeptRow image lent (kept n k b)) (image-of-state m t rep) (keep-exactly m m′ lent n k b h .0)
+
+-- 63 roles after top, 32 rules and a record of marks for each: no image has more than 127 records, so a buffer of 16,256 bytes is never too short.
+pub image-room : (m : State) → length (stateImage m) ≤ 127 * recordSize
+image-room m =
+    let e = image-length (m .sheet .names) (m .sheet .parents) (rolesAfterTop m) (m .sheet .«rule_names») (m .sheet .rows) (m .positions) (rulesIn m) in
+    let r = capped-le maxRoles (m .sheet .«role_count») in
+    let n = capped-le maxRules (m .sheet .«rule_count») in
+    omega (arith, e, r, n)
+
+long-enough : (image lent : List ℕ) (r : Result) → KeptRow image lent r → length image ≤ length lent → numberIn r ≡ 0
+long-enough image lent r (too-short h) q = absurd (omega arith)
+long-enough image lent r (written k rest e h d) q = refl
+
+pub keep-with-room : (m m′ : State) (lent : List ℕ) (n k : ℕ) (b : List ℕ) → KeptAs m lent n k b m′ → 127 * recordSize ≤ length lent → n ≡ 0
+keep-with-room m m′ lent n k b h q = let r = image-room m in long-enough (stateImage m) lent (kept n k b) (keep-exactly m m′ lent n k b h .0) (omega arith)
 
 -- RESTORING
 
@@ -68,12 +90,7 @@ module _ (m m′ : State) (image : List ℕ) (n : ℕ) (h : RestoredBy m image n
 
 -- THE ROUND TRIP
 
--- the parts of a result of keeping
-abbrev numberIn : Result → ℕ
-numberIn (answered a) = a .number
-numberIn (kept n k b) = n
-numberIn (replaced n) = n
-
+-- the records that a result of keeping has
 abbrev recordsIn : Result → List ℕ
 recordsIn (answered a) = a .buffer
 recordsIn (kept n k b) = take (k * recordSize) b

@@ -10,7 +10,7 @@ use mathlib.Core.Path.{_≡_, subst}
 use mathlib.Core.Bool.{true}
 use mathlib.Core.List.{List, _∷_, _++_}
 use mathlib.Core.Logic.{_↔_}
-use Prim.Native.Nat.{ℕ, _*_, _<_}
+use Prim.Native.Nat.{ℕ, _*_, _≤_, _<_}
 use lib.ListN.{length, take, drop}
 use Rattle.common.specs.All.{All}
 use Rattle.common.specs.Limits.{replySize, recordSize}
@@ -98,6 +98,10 @@ batch-refusal-changes-nothing = batches.refusal-steady
 -- unchanged": of any monitor at all, by the image of its state; and the monitor is as it was.
 pub keep-of-any-monitor : (m m′ : State) (lent : List ℕ) (n k : ℕ) (b : List ℕ) → KeptAs m lent n k b m′ → KeptRow (stateImage m) lent (kept n k b) × (m′ ≡ m)
 keep-of-any-monitor = snapshots.keep-exactly
+
+-- An image has at most 127 records, 63 roles after top and two for each of 32 rules: a buffer of 16,256 bytes is never too short.
+pub keep-with-room : (m m′ : State) (lent : List ℕ) (n k : ℕ) (b : List ℕ) → KeptAs m lent n k b m′ → 127 * recordSize ≤ length lent → n ≡ 0
+keep-with-room = snapshots.keep-with-room
 
 -- After any operations the image is that of the plain book.
 pub keep-writes-the-book : (os : List Operation) (m m′ : State) (lent : List ℕ) (n k : ℕ) (b : List ℕ) → LeftBy os m → KeptAs m lent n k b m′ → KeptRow (bookImage (book os)) lent (kept n k b)
