@@ -16,13 +16,15 @@ use Rattle.intake.specs.Rows.{SaysEvent, row-2, row-3, row-4-line, row-4-event,
 use Rattle.chain.specs.Work.{chain, workEvent}
 use Rattle.book.specs.Names.{Event, Roles, Duty, Outcome}
 use Rattle.book.specs.Decide.{Call, Decision, refused, newRole, newRule, worked, dutyNames, granted, outcomeReply, answer}
-use Rattle.book.specs.Book.{Book, freshBook, bookDuty, bookDuties, bookDecides, bookNext, bookStep}
+use Rattle.book.specs.Book.{Book, bookDuty, bookDuties, bookDecides, bookNext, bookStep}
 use Rattle.book.specs.Session.{left}
+use Rattle.book.specs.Operations.{Operation}
+use Rattle.book.specs.SessionBook.{freshSession, bookOperate}
 use Rattle.book.specs.Working.{WorkEnds}
 use Rattle.book.specs.Rows.{Lends, CallRow, row-1, rows-on, Allowed, allowed-role, allowed-rule, allowed-event, Full, full-roles, full-rules}
 use Rattle.book.proofs.Rows.{decided, decided-exactly}
 use Rattle.book.proofs.Working.{work-exactly}
-use Rattle.book.proofs.Whole.{book-sound}
+use Rattle.book.proofs.Whole.{operations-sound}
 
 -- NUMBERS
 
@@ -125,15 +127,16 @@ module _ (b : Book) (c : Call) where
 
 -- LIMITS
 
--- AfterResponses any calls 8 is said only where all places are held, 64 and 32, exactly.
-pub eight-full : (cs : List Call) (c : Call) → bookStep (left bookStep freshBook cs) c .1 .number ≡ 8
-    → (length (left bookStep freshBook cs .roles) ≡ 64) ⊎ (length (left bookStep freshBook cs .rules) ≡ 32)
-eight-full cs c q = go (eight-exactly (left bookStep freshBook cs) c .0 q)
+-- After any operations 8 is said only where all places are held, 64 and 32, exactly.
+pub eight-full : (os : List Operation) (c : Call) → bookStep (left bookOperate freshSession os .book) c .1 .number ≡ 8
+    → (length (left bookOperate freshSession os .book .roles) ≡ 64) ⊎ (length (left bookOperate freshSession os .book .rules) ≡ 32)
+eight-full os c q = go (eight-exactly (left bookOperate freshSession os .book) c .0 q)
   where
-    go : Full (left bookStep freshBook cs .roles) (bookDuties (left bookStep freshBook cs)) c → (length (left bookStep freshBook cs .roles) ≡ 64) ⊎ (length (left bookStep freshBook cs .rules) ≡ 32)
-    go (full-roles m s l) = let h = book-sound cs .few-roles in inl (omega arith)
+    go : Full (left bookOperate freshSession os .book .roles) (bookDuties (left bookOperate freshSession os .book)) c
+        → (length (left bookOperate freshSession os .book .roles) ≡ 64) ⊎ (length (left bookOperate freshSession os .book .rules) ≡ 32)
+    go (full-roles m s l) = let h = operations-sound os .few-roles in inl (omega arith)
     go (full-rules m s l) =
-        let b : Book = left bookStep freshBook cs in
-        let h = book-sound cs .few-rules in
+        let b : Book = left bookOperate freshSession os .book in
+        let h = operations-sound os .few-rules in
         let k = length-map (b .rules) (bookDuty (b .roles) (b .history)) in
         inr (omega arith)
