@@ -1,6 +1,6 @@
 #!/usr/bin/env bash
-# All tests: a plain book written from document 01 alone against the stored sessions and, by random sessions, call by call and in batches, against the monitor; random pasts against a plain
-# matcher; then every crate proved from nothing, every must-fail edit refused, every program run and compared with its stored output.
+# All tests: a plain book written from documents 01 and 02 alone against the stored sessions and images and, by random sessions, call by call, in batches and with images kept and restored, against the
+# monitor; random pasts against a plain matcher; then every crate proved from nothing, every must-fail edit refused, every program run and compared with its stored output.
 set -eu
 cd "$(dirname "$0")"
 rt fmt --check
@@ -11,7 +11,7 @@ command -v rustc > /dev/null || { apt-get update && apt-get install -y rustc; }
 out=$(mktemp -d)
 trap 'rm -rf "$out"' EXIT
 rustc --edition 2021 -O -o "$out/book" tests/book/main.rs
-"$out/book" crates/test_sessions/data
+"$out/book" crates/test_sessions/data tests/images
 
 # Rust and C call the proved code by its static libraries.
 rt check test_probe stand
@@ -23,15 +23,19 @@ command -v cc > /dev/null || { apt-get update && apt-get install -y gcc libc6-de
 cc -std=c99 -Wall -Wextra -Werror -O2 -o "$out/header" tests/header/main.c target/staticlib/libstand.a
 "$out/header" crates/session/data/session.rec crates/session/stdout
 cc -std=c99 -Wall -Wextra -Werror -O2 -o "$out/batches" examples/batches.c target/staticlib/libstand.a
-examples/test.sh "$out/batches"
+cc -std=c99 -Wall -Wextra -Werror -O2 -o "$out/snapshots" examples/snapshots.c target/staticlib/libstand.a
+examples/test.sh "$out/batches" "$out/snapshots"
+tests/demo/snapshots.sh
 rustc --edition 2021 -O -L target/staticlib -o "$out/calls" tests/calls/main.rs
 "$out/calls" stored crates/test_sessions/data
+"$out/calls" images tests/images
 "$out/calls"
 
 # The same with fewer calls, every access to memory watched.
 command -v valgrind > /dev/null || { apt-get update && apt-get install -y valgrind; }
 valgrind --error-exitcode=1 -q "$out/calls" 6000
 valgrind --error-exitcode=1 -q --leak-check=full "$out/batches" crates/test_sessions/data/short-last-record.rec > /dev/null
+valgrind --error-exitcode=1 -q --leak-check=full "$out/snapshots" samples/snapshots.txt > /dev/null
 rm -rf "$out"
 
 exec rt ci

@@ -1,12 +1,15 @@
 //! Runs stored sessions through the plain book and compares its replies, byte
 //! for byte, with the stored ones.
 //!
-//! The one argument is the directory of the sessions (see `stored.rs`).
+//! The arguments are the directory of the sessions (see `stored.rs`) and, where
+//! they are to be compared too, that of the visits (see `visits.rs`).
 
 #![forbid(unsafe_code)]
 
 mod plain;
+mod returning;
 mod stored;
+mod visits;
 
 use std::path::Path;
 
@@ -14,9 +17,11 @@ use plain::book::{Book, RECORD};
 use plain::reply;
 
 fn main() {
-    let told = match std::env::args_os().nth(1) {
-        Some(directory) => compare_all(Path::new(&directory)),
-        None => Err("book: give the directory of the sessions".to_string()),
+    let directories: Vec<_> = std::env::args_os().skip(1).collect();
+    let told = match &directories[..] {
+        [sessions] => compare_all(Path::new(sessions)),
+        [sessions, visits] => compare_both(Path::new(sessions), Path::new(visits)),
+        _ => Err("book: give the directory of the sessions".to_string()),
     };
     match told {
         Ok(line) => println!("{line}"),
@@ -25,6 +30,12 @@ fn main() {
             std::process::exit(1);
         }
     }
+}
+
+fn compare_both(sessions: &Path, visits: &Path) -> Result<String, String> {
+    let of_sessions = compare_all(sessions)?;
+    let of_visits = returning::compare_all(visits)?;
+    Ok(format!("{of_sessions}\n{of_visits}"))
 }
 
 /// Every stored session; stops at the first difference.

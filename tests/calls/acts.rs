@@ -1,11 +1,15 @@
 //! Random acts, and acts led by a rule.
 
 use crate::language::few;
-use crate::plain::chain::Rule;
+use crate::plain::allowed::Allowed;
+use crate::plain::marks::Marks;
 use crate::plain::meets::meets;
 use crate::plain::roles::Roles;
+use crate::plain::rule::Rule;
+use crate::plain::survey::conditions;
 use crate::plain::tree::{Act, Condition, Item, Name, Past, Simple};
 use crate::random::Random;
+use crate::spell::Tokens;
 
 /// Lists made from a past end soon after so many acts: enough for 31 patterns in a row.
 const MOST: usize = 36;
@@ -18,6 +22,12 @@ fn role(random: &mut Random, roles: &Roles) -> Name {
 
 pub fn act(random: &mut Random, roles: &Roles) -> Act {
     (0..few(random)).map(|_| role(random, roles)).collect()
+}
+
+/// The role names of an act as tokens.
+pub fn named(act: &Act) -> Tokens {
+    let names = act.iter().map(|n| String::from_utf8_lossy(n).into_owned());
+    names.collect()
 }
 
 /// A role that the item takes.
@@ -88,6 +98,31 @@ pub fn matching(random: &mut Random, roles: &Roles, past: &Past, list: &mut Vec<
 pub fn leading(random: &mut Random, roles: &Roles, rule: &Rule) -> Vec<Act> {
     let mut list = Vec::new();
     matching(random, roles, &rule.line.past, &mut list);
+    list.push(meeting(random, roles, &rule.line.trigger));
+    list
+}
+
+/// Acts that may lead the rule on from these marks to its trigger, and last one
+/// that meets it.
+pub fn onward(random: &mut Random, roles: &Roles, rule: &Rule, marks: &Marks) -> Vec<Act> {
+    let allowed = Allowed::by(&rule.line.past);
+    let patterns = conditions(&rule.line.past);
+    let mut list = Vec::new();
+    let mut from: Vec<usize> = marks.iter().copied().collect();
+    while !from.is_empty() && list.len() < MOST {
+        let mark = *random.pick(&from);
+        if allowed.ends(mark) && random.chance(40) {
+            break;
+        }
+        let next = 1..=patterns.len();
+        let next: Vec<usize> = next.filter(|&k| allowed.before(mark, k)).collect();
+        if next.is_empty() {
+            break;
+        }
+        let k = *random.pick(&next);
+        list.push(meeting(random, roles, patterns[k - 1]));
+        from = vec![k];
+    }
     list.push(meeting(random, roles, &rule.line.trigger));
     list
 }

@@ -1,16 +1,18 @@
 //! One session through the book and the library: its calls, questions to the judge
-//! about it, the same calls as operations, and some that don't fit.
+//! about it, the same calls as operations, with places to return to between them,
+//! and some that don't fit.
 
 use crate::cut::cut;
 use crate::file;
 use crate::flat::Flat;
+use crate::images;
 use crate::judging;
 use crate::misfit;
-use crate::operations;
-use crate::plain::book::RECORD;
+use crate::operations::{self, Operation};
 use crate::session;
 use crate::stage::Stage;
 use crate::tally::Tally;
+use crate::tour;
 
 /// Why it failed, and the text by which it is replayed.
 pub type Failed = (String, String);
@@ -20,7 +22,8 @@ pub fn compare(number: usize, stage: &mut Stage, tally: &mut Tally) -> Result<()
     compare_calls(stage, tally)?;
     compare_judge(stage, tally)?;
     compare_misfit(stage, session::flat(&stage.calls), tally)?;
-    compare_operations(number, stage, tally)
+    compare_operations(number, stage, tally)?;
+    compare_tours(number, stage, tally)
 }
 
 fn compare_calls(stage: &Stage, tally: &mut Tally) -> Result<(), Failed> {
@@ -38,8 +41,7 @@ fn compare_judge(stage: &mut Stage, tally: &mut Tally) -> Result<(), Failed> {
         if let Some(why) = judging::difference(&question) {
             return Err((why, file::question_text(&question)));
         }
-        let records = question.records.len() / RECORD;
-        tally.judged(judging::by_book(&question), records);
+        tally.judged(&question, judging::by_book(&question));
     }
     Ok(())
 }
@@ -52,6 +54,32 @@ fn compare_operations(number: usize, stage: &mut Stage, tally: &mut Tally) -> Re
     }
     tally.operations(&operations, &answers);
     compare_misfit(stage, operations::flat(&operations), tally)
+}
+
+/// Images come in between, so the calls may meet another monitor than the one
+/// that they were made for. A small session has few calls and many images.
+fn compare_tours(number: usize, stage: &mut Stage, tally: &mut Tally) -> Result<(), Failed> {
+    let operations = cut(&mut stage.random, number, &stage.calls);
+    compare_tour(number, stage, operations, 8, tally)?;
+    let small = images::small(&mut stage.random).calls;
+    let operations = small.into_iter().map(Operation::Call).collect();
+    compare_tour(number, stage, operations, 50, tally)
+}
+
+fn compare_tour(
+    number: usize,
+    stage: &mut Stage,
+    operations: Vec<Operation>,
+    stops: usize,
+    tally: &mut Tally,
+) -> Result<(), Failed> {
+    let tour = tour::made(&mut stage.random, number, operations, stops);
+    if let Some(why) = operations::difference(&tour.operations, &tour.answers) {
+        return Err((why, file::operations_text(&tour.operations)));
+    }
+    tally.operations(&tour.operations, &tour.answers);
+    tally.watched(&tour.watch);
+    compare_misfit(stage, operations::flat(&tour.operations), tally)
 }
 
 fn compare_misfit(stage: &mut Stage, fitting: Flat, tally: &mut Tally) -> Result<(), Failed> {

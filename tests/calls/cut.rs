@@ -1,7 +1,8 @@
 //! The calls of a session cut into operations, with batches of none and batches
 //! to be turned away among them.
 
-use crate::operations::{Batch, Operation, MOST};
+use crate::batch::{Batch, MOST};
+use crate::operations::Operation;
 use crate::plain::book::RECORD;
 use crate::plain::reply;
 use crate::random::Random;

@@ -1,14 +1,17 @@
 //! What failed, as text, and back.
 //!
-//! A line is `call RECORD LENT`, `batch RECORDS LENT`, `judge SHEET NUMBER RECORDS`,
+//! A line is `call RECORD LENT`, `batch RECORDS LENT`, `keep RECORDS LENT`,
+//! `restore IMAGE LENT`, `judge SHEET NUMBER RECORDS`,
 //! `misfit RECORDS LENGTHS REPLIES SIZES NUMBERS` or, for operations,
-//! `misfit RECORDS LENGTHS REPLIES SIZES NUMBERS KINDS`. Bytes are in
+//! `misfit RECORDS LENGTHS REPLIES SIZES NUMBERS KINDS COUNTS`. Bytes are in
 //! hexadecimal, other numbers in decimal with commas, `-` for none. Lines that
 //! begin with `#` are for the reader.
 
+use crate::batch::Batch;
 use crate::flat::Flat;
 use crate::judging::Question;
-use crate::operations::{Batch, Operation};
+use crate::keeping::{Keep, Restore};
+use crate::operations::Operation;
 use crate::plain::book::RECORD;
 use crate::session::Call;
 
@@ -66,6 +69,8 @@ pub fn operations_text(operations: &[Operation]) -> String {
         let (word, each) = match operation {
             Operation::Call(_) => ("call", records.len().max(1)),
             Operation::Batch(_) => ("batch", RECORD),
+            Operation::Keep(_) => ("keep", RECORD),
+            Operation::Restore(_) => ("restore", RECORD),
         };
         text += &format!("# {} {word}\n", at + 1);
         for record in records.chunks(each) {
@@ -83,41 +88,60 @@ pub fn question_text(q: &Question) -> String {
 pub fn misfit_text(f: &Flat) -> String {
     let (records, replies, numbers) = (hex(&f.records), hex(&f.replies), hex(&f.numbers));
     let (lengths, sizes) = (decimal(&f.lengths), decimal(&f.sizes));
-    let kinds = f.kinds.as_ref().map_or(String::new(), |kinds| hex(kinds));
-    format!("misfit {records} {lengths} {replies} {sizes} {numbers} {kinds}\n")
+    let more = match &f.kinds {
+        None => String::new(),
+        Some(kinds) => format!(" {} {}", hex(kinds), decimal(&f.counts)),
+    };
+    format!("misfit {records} {lengths} {replies} {sizes} {numbers}{more}\n")
 }
 
-fn misfit(words: [&str; 5], kinds: Option<Vec<u8>>) -> Option<Entry> {
+fn misfit(words: [&str; 5]) -> Option<Flat> {
     let [records, lengths, replies, sizes, numbers] = words;
-    Some(Entry::Misfit(Flat {
-        kinds,
+    Some(Flat {
         records: unhex(records)?,
         lengths: undecimal(lengths)?,
         replies: unhex(replies)?,
         sizes: undecimal(sizes)?,
         numbers: unhex(numbers)?,
-    }))
+        ..Flat::default()
+    })
+}
+
+/// The operation of that word with these bytes.
+fn operation(word: &str, records: Vec<u8>, lent: Vec<u8>) -> Option<Operation> {
+    Some(match word {
+        "call" => Operation::Call(Call {
+            record: records,
+            lent,
+        }),
+        "batch" => Operation::Batch(Batch { records, lent }),
+        "keep" => Operation::Keep(Keep { records, lent }),
+        "restore" => Operation::Restore(Restore {
+            image: records,
+            lent,
+        }),
+        _ => return None,
+    })
 }
 
 /// The entry of a line, or nothing when it has none of the forms.
 pub fn entry(line: &str) -> Option<Entry> {
     let words: Vec<&str> = line.split_whitespace().collect();
     match words[..] {
-        ["call", record, lent] => Some(Entry::Operation(Operation::Call(Call {
-            record: unhex(record)?,
-            lent: unhex(lent)?,
-        }))),
-        ["batch", records, lent] => Some(Entry::Operation(Operation::Batch(Batch {
-            records: unhex(records)?,
-            lent: unhex(lent)?,
-        }))),
+        [word, records, lent] => {
+            operation(word, unhex(records)?, unhex(lent)?).map(Entry::Operation)
+        }
         ["judge", sheet, number, records] => Some(Entry::Judge(Question {
             sheet: unhex(sheet)?,
             number: number.parse().ok()?,
             records: unhex(records)?,
         })),
-        ["misfit", a, b, c, d, e] => misfit([a, b, c, d, e], None),
-        ["misfit", a, b, c, d, e, kinds] => misfit([a, b, c, d, e], Some(unhex(kinds)?)),
+        ["misfit", a, b, c, d, e] => misfit([a, b, c, d, e]).map(Entry::Misfit),
+        ["misfit", a, b, c, d, e, kinds, counts] => Some(Entry::Misfit(Flat {
+            kinds: Some(unhex(kinds)?),
+            counts: undecimal(counts)?,
+            ..misfit([a, b, c, d, e])?
+        })),
         _ => None,
     }
 }

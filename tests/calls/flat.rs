@@ -12,6 +12,16 @@ pub struct Flat {
     pub replies: Vec<u8>,
     pub sizes: Vec<u32>,
     pub numbers: Vec<u8>,
+    /// Of operations alone: how many records keeping wrote.
+    pub counts: Vec<u32>,
+}
+
+/// What the library gives back: its number, and the buffers that it writes to.
+pub struct Given {
+    pub told: u32,
+    pub replies: Box<[u8]>,
+    pub numbers: Box<[u8]>,
+    pub counts: Box<[u32]>,
 }
 
 impl Flat {
@@ -21,18 +31,20 @@ impl Flat {
         self.lengths.push(records.len() as u32);
         self.replies.extend(lent);
         self.sizes.push(lent.len() as u32);
-        // No number is as high as these, so that one left unwritten shows.
-        self.numbers.push(200 + (self.numbers.len() % 50) as u8);
+        // No number and no count is as high as these, so that one left unwritten shows.
+        let at = self.numbers.len();
+        self.numbers.push(200 + (at % 50) as u8);
+        self.counts.push(4_000_000_000 + at as u32);
     }
 
-    /// What the library gives back: its number, the replies and the numbers.
     /// Each buffer is a block of just its length, so that a step out of one shows under valgrind.
-    pub fn ask(self) -> (u32, Box<[u8]>, Box<[u8]>) {
+    pub fn ask(self) -> Given {
         let records = self.records.into_boxed_slice();
         let lengths = self.lengths.into_boxed_slice();
         let mut replies = self.replies.into_boxed_slice();
         let sizes = self.sizes.into_boxed_slice();
         let mut numbers = self.numbers.into_boxed_slice();
+        let mut counts = self.counts.into_boxed_slice();
         let told = match self.kinds.map(Vec::into_boxed_slice) {
             None => stand::session(&records, &lengths, &mut replies, &sizes, &mut numbers),
             Some(kinds) => stand::operations(
@@ -42,26 +54,37 @@ impl Flat {
                 &mut replies,
                 &sizes,
                 &mut numbers,
+                &mut counts,
             ),
         };
-        (told, replies, numbers)
+        Given {
+            told,
+            replies,
+            numbers,
+            counts,
+        }
     }
 
     /// The library's answers, or the number by which the whole is refused.
-    fn answers(self) -> Result<Vec<Answer>, u32> {
+    fn answers(mut self) -> Result<Vec<Answer>, u32> {
+        if self.kinds.is_none() {
+            // Calls have no counts of records.
+            self.counts.fill(0);
+        }
         let sizes = self.sizes.clone();
-        let (told, replies, numbers) = self.ask();
-        if told != 0 {
-            return Err(told);
+        let given = self.ask();
+        if given.told != 0 {
+            return Err(given.told);
         }
         // The parts make up the whole buffer, so no byte of it goes uncompared.
-        let mut rest = &replies[..];
+        let mut rest = &given.replies[..];
         let mut answers = Vec::new();
-        for (&size, &number) in sizes.iter().zip(numbers.iter()) {
+        for (at, &size) in sizes.iter().enumerate() {
             let (reply, after) = rest.split_at(size as usize);
             answers.push(Answer {
-                number,
+                number: given.numbers[at],
                 reply: reply.to_vec(),
+                count: given.counts[at],
             });
             rest = after;
         }

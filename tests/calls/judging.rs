@@ -2,6 +2,7 @@
 
 use crate::acts;
 use crate::plain::book::{Book, RECORD};
+use crate::plain::image::image;
 use crate::plain::judge::judge;
 use crate::plain::reply;
 use crate::plain::tree::Act;
@@ -61,12 +62,17 @@ pub fn difference(question: &Question) -> Option<String> {
     ))
 }
 
-/// A session's whole records: all of them, or the lines alone.
+/// A session's whole records: all of them, or the lines alone. Or the image that
+/// they leave, of which the records of marks are refused and change nothing.
 fn sheet(random: &mut Random, calls: &[Call]) -> Vec<u8> {
     let acts_too = random.chance(20);
     let whole = calls.iter().filter(|call| call.record.len() == RECORD);
     let kept = whole.filter(|call| acts_too || call.record[0] == b'L');
-    kept.flat_map(|call| call.record.clone()).collect()
+    let sheet: Vec<u8> = kept.flat_map(|call| call.record.clone()).collect();
+    if random.chance(15) {
+        return image(&read(&sheet));
+    }
+    sheet
 }
 
 fn written(act: &Act) -> Vec<u8> {

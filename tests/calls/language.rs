@@ -1,7 +1,8 @@
 //! Random lines of the rule language, as tokens.
 
 use crate::random::Random;
-use crate::spell::Tokens;
+use crate::spell::{text, Tokens};
+use crate::words;
 
 /// What a line is made of: the roles it may use, and how short its patterns are.
 /// 0 is any pattern; above it patterns have few bytes so that many fit, and
@@ -16,6 +17,20 @@ pub struct Maker<'a> {
 /// How many roles, items or slots: often one, seldom four.
 pub fn few(random: &mut Random) -> usize {
     *random.pick(&[0, 1, 1, 1, 1, 1, 2, 2, 3, 4])
+}
+
+/// A rule line of any name that fits a record.
+pub fn rule(random: &mut Random, roles: &[String]) -> Tokens {
+    let name = words::name(random);
+    loop {
+        let size = *random.pick(&[1, 1, 2, 2, 3, 4, 6]);
+        let mut maker = Maker::new(random, roles);
+        maker.rule_line(&name, size);
+        let made = maker.out;
+        if text(random, &made).is_some() {
+            return made;
+        }
+    }
 }
 
 /// `size` as `count` parts, none of them 0.

@@ -4,14 +4,18 @@
 //! `calls [COUNT] [SEED]`: at least COUNT calls; fails at the first difference,
 //! and when something that should have occurred didn't.
 //! `calls stored DIRECTORY`: the stored sessions in batches.
+//! `calls images DIRECTORY`: the stored visits, which keep images and return to them.
 //! `calls replay FILE`: a failing session again.
 
 mod acts;
+mod batch;
 mod compare;
 mod cut;
 mod file;
 mod flat;
+mod images;
 mod judging;
+mod keeping;
 mod kinds;
 mod language;
 mod misfit;
@@ -27,10 +31,15 @@ mod spell;
 mod spoil;
 mod stage;
 mod stand;
+mod stops;
 mod stored;
 #[path = "../book/stored.rs"]
 mod stored_sessions;
+#[path = "../book/visits.rs"]
+mod stored_visits;
 mod tally;
+mod tour;
+mod visits;
 mod words;
 
 use std::path::Path;
@@ -46,6 +55,7 @@ fn main() {
     let told = match words.first().map(String::as_str) {
         Some("replay") => path(words.get(1)).and_then(replay::replay),
         Some("stored") => path(words.get(1)).and_then(stored::compare_all),
+        Some("images") => path(words.get(1)).and_then(visits::compare_all),
         _ => numbers(&words).and_then(|(count, seed)| run(count, seed)),
     };
     match told {

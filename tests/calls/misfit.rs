@@ -1,6 +1,7 @@
 //! Sessions of calls or of operations whose counts, sums or kinds don't fit: 11, and nothing written.
 
 use crate::flat::Flat;
+use crate::operations::HIGHEST_KIND;
 use crate::random::Random;
 
 /// One thing that doesn't fit. Sums that fit again after a turn of 32 bits don't fit either.
@@ -17,7 +18,8 @@ fn spoil(random: &mut Random, f: &mut Flat) {
             f.lengths.extend([u32::MAX, 1]);
             f.sizes.extend([1, u32::MAX]);
             f.numbers.extend([201, 202]);
-            // As many kinds, so that the sums alone don't fit.
+            // As many kinds and counts, so that the sums alone don't fit.
+            f.counts.extend([u32::MAX, u32::MAX]);
             f.kinds.iter_mut().for_each(|kinds| kinds.extend([0, 1]));
         }
     }
@@ -33,20 +35,23 @@ fn shift(random: &mut Random, counts: &mut Vec<u32>) {
     counts[at] = counts[at].wrapping_add(by);
 }
 
-/// A kind too many or too few, or one that is neither of the two.
-fn spoil_kinds(random: &mut Random, kinds: &mut Vec<u8>) {
+/// What only operations have: a kind too many or too few, or one that is none of
+/// the four; a count too many or too few.
+fn spoil_operations(random: &mut Random, kinds: &mut Vec<u8>, counts: &mut Vec<u32>) {
     let at = random.below(kinds.len());
-    match random.below(4) {
-        0 => kinds.push(*random.pick(&[0, 1])),
+    match random.below(6) {
+        0 => kinds.push(random.below(4) as u8),
         1 => drop(kinds.pop()),
-        _ => kinds[at] = *random.pick(&[2, 3, 128, 255]),
+        2 => counts.push(u32::MAX),
+        3 => drop(counts.pop()),
+        _ => kinds[at] = *random.pick(&[HIGHEST_KIND + 1, 128, 255]),
     }
 }
 
 /// What was asked, made so that it doesn't fit.
 pub fn made(random: &mut Random, mut f: Flat) -> Flat {
     match &mut f.kinds {
-        Some(kinds) if random.chance(40) => spoil_kinds(random, kinds),
+        Some(kinds) if random.chance(50) => spoil_operations(random, kinds, &mut f.counts),
         _ => spoil(random, &mut f),
     }
     f
@@ -54,12 +59,16 @@ pub fn made(random: &mut Random, mut f: Flat) -> Flat {
 
 /// What is wrong with the answer to what doesn't fit.
 pub fn wrong(f: &Flat) -> Option<String> {
-    let (told, replies, numbers) = f.clone().ask();
-    if told != 11 {
+    let given = f.clone().ask();
+    if given.told != 11 {
+        let told = given.told;
         return Some(format!("a session that doesn't fit gives {told}, not 11"));
     }
-    if f.replies[..] != replies[..] || f.numbers[..] != numbers[..] {
-        return Some("a session that doesn't fit gives 11, but something is written".to_string());
+    let as_lent = f.replies[..] == given.replies[..]
+        && f.numbers[..] == given.numbers[..]
+        && f.counts[..] == given.counts[..];
+    if as_lent {
+        return None;
     }
-    None
+    Some("a session that doesn't fit gives 11, but something is written".to_string())
 }

@@ -1,6 +1,7 @@
 //! Batches that must be turned away.
 
-use crate::operations::{Batch, Operation, MOST};
+use crate::batch::{Batch, MOST};
+use crate::operations::Operation;
 use crate::plain::book::RECORD;
 use crate::plain::reply::LENGTH;
 use crate::random::Random;

@@ -42,6 +42,6 @@ fn difference(operations: &[Operation]) -> Option<String> {
 fn single(operation: &Operation) -> Option<Call> {
     match operation {
         Operation::Call(call) => Some(call.clone()),
-        Operation::Batch(_) => None,
+        _ => None,
     }
 }

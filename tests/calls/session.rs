@@ -10,11 +10,24 @@ pub struct Call {
     pub lent: Vec<u8>,
 }
 
-/// One answer: the number, and the reply buffer afterwards.
+/// One answer: the number, the reply buffer afterwards, and how many records
+/// keeping wrote, which is 0 for all that isn't keeping.
 #[derive(PartialEq, Eq)]
 pub struct Answer {
     pub number: u8,
     pub reply: Vec<u8>,
+    pub count: u32,
+}
+
+impl Answer {
+    /// The answer to what isn't keeping.
+    pub fn new(number: u8, reply: Vec<u8>) -> Answer {
+        Answer {
+            number,
+            reply,
+            count: 0,
+        }
+    }
 }
 
 pub fn flat(calls: &[Call]) -> Flat {
@@ -29,7 +42,7 @@ pub fn flat(calls: &[Call]) -> Flat {
 pub fn step(book: &mut Book, call: &Call) -> Answer {
     let mut reply = call.lent.clone();
     let number = book.call(&call.record, &mut reply);
-    Answer { number, reply }
+    Answer::new(number, reply)
 }
 
 pub fn by_book(calls: &[Call]) -> Vec<Answer> {
@@ -39,7 +52,13 @@ pub fn by_book(calls: &[Call]) -> Vec<Answer> {
 
 /// The bytes of a record and the two answers to it.
 pub fn shown(record: &[u8], due: &Answer, library: &Answer) -> String {
-    let answer = |a: &Answer| format!("{} \"{}\"", a.number, a.reply.escape_ascii());
+    let answer = |a: &Answer| {
+        let reply = a.reply.escape_ascii();
+        match a.count {
+            0 => format!("{} \"{reply}\"", a.number),
+            count => format!("{} \"{reply}\", {count} records", a.number),
+        }
+    };
     format!(
         "record \"{}\"\n  due {}\n  library {}",
         record.escape_ascii(),
@@ -54,4 +73,10 @@ pub fn difference(calls: &[Call], due: &[Answer]) -> Option<String> {
         let both = shown(&calls[at].record, due, library);
         format!("call {}: {both}", at + 1)
     })
+}
+
+/// The piece at that place of bytes cut into pieces of that length; nothing behind the last.
+pub fn piece(bytes: &[u8], at: usize, length: usize) -> Vec<u8> {
+    let piece = bytes.chunks(length).nth(at);
+    piece.unwrap_or_default().to_vec()
 }

@@ -1,8 +1,8 @@
 //! A session while it is made: the book steps along, so that the next record
 //! can be chosen by what is held.
 
-use crate::acts;
-use crate::language::Maker;
+use crate::acts::{self, named};
+use crate::language;
 use crate::plain::book::Book;
 use crate::plain::reply;
 use crate::plain::tree::Act;
@@ -20,12 +20,6 @@ pub struct Stage {
     pub roles: Vec<String>,
     /// Acts to offer next, the last one first.
     plan: Vec<Act>,
-}
-
-/// The role names of an act as tokens.
-fn named(act: &Act) -> Tokens {
-    let names = act.iter().map(|n| String::from_utf8_lossy(n).into_owned());
-    names.collect()
 }
 
 impl Stage {
@@ -77,16 +71,7 @@ impl Stage {
 
     /// A rule line that fits a record.
     pub fn rule_tokens(&mut self) -> Tokens {
-        let name = words::name(&mut self.random);
-        loop {
-            let size = *self.random.pick(&[1, 1, 2, 2, 3, 4, 6]);
-            let mut maker = Maker::new(&mut self.random, &self.roles);
-            maker.rule_line(&name, size);
-            let made = maker.out;
-            if text(&mut self.random, &made).is_some() {
-                return made;
-            }
-        }
+        language::rule(&mut self.random, &self.roles)
     }
 
     fn next_act(&mut self) -> Act {

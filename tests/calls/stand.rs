@@ -27,6 +27,8 @@ extern "C" {
         sizes_len: usize,
         numbers: *mut u8,
         numbers_len: usize,
+        counts: *mut u32,
+        counts_len: usize,
     ) -> u32;
     fn stand_judge(
         sheet: *const u8,
@@ -62,7 +64,8 @@ pub fn session(
     }
 }
 
-/// A session of single calls and batches from a fresh monitor. Gives 0, or 11 with nothing written.
+/// A session of operations from a fresh monitor: single calls, batches, keeping
+/// and restoring. Gives 0, or 11 with nothing written.
 pub fn operations(
     kinds: &[u8],
     records: &[u8],
@@ -70,6 +73,7 @@ pub fn operations(
     replies: &mut [u8],
     sizes: &[u32],
     numbers: &mut [u8],
+    counts: &mut [u32],
 ) -> u32 {
     unsafe {
         stand_operations(
@@ -85,6 +89,8 @@ pub fn operations(
             sizes.len(),
             numbers.as_mut_ptr(),
             numbers.len(),
+            counts.as_mut_ptr(),
+            counts.len(),
         )
     }
 }

@@ -2,8 +2,9 @@
 
 use std::path::Path;
 
+use crate::batch::MOST;
 use crate::cut::evenly;
-use crate::operations::{difference, Operation, MOST};
+use crate::operations::{difference, Operation};
 use crate::plain::book::RECORD;
 use crate::plain::reply;
 use crate::session::{Answer, Call};
@@ -57,13 +58,11 @@ fn answers(operations: &[Operation], stored: &[u8]) -> Vec<Answer> {
     let due = operations.iter().map(|operation| {
         let (reply, after) = rest.split_at(operation.bytes().1.len());
         rest = after;
-        Answer {
-            number: match operation {
-                Operation::Call(_) => 2,
-                Operation::Batch(_) => 0,
-            },
-            reply: reply.to_vec(),
-        }
+        let number = match operation {
+            Operation::Batch(_) => 0,
+            _ => 2,
+        };
+        Answer::new(number, reply.to_vec())
     });
     due.collect()
 }

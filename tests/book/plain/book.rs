@@ -1,12 +1,14 @@
 //! The plain book: the roles with their parents, the rules in declared order,
 //! each with its start, and the full list of committed acts as role names.
 
-use super::chain::{work, End, Rule, Stand};
+use super::chain::{work, End, Stand};
 use super::grammar;
+use super::marks::Marks;
 use super::reply;
 use super::roles::Roles;
+use super::rule::{Rule, Seen};
 use super::survey::{patterns, roles_used};
-use super::text::class;
+use super::text::{class, tokens, Token};
 use super::tree::{Act, Line, Name, RuleLine};
 
 /// The length of a record.
@@ -16,6 +18,7 @@ const MOST_ROLES: usize = 64;
 const MOST_RULES: usize = 32;
 const MOST_PATTERNS: usize = 31;
 
+#[derive(Clone)]
 pub struct Book {
     roles: Roles,
     rules: Vec<Rule>,
@@ -56,6 +59,19 @@ impl Book {
         &self.rules
     }
 
+    /// The committed acts; where an image from elsewhere gave the book, those
+    /// since then.
+    pub fn list(&self) -> &[Act] {
+        &self.list
+    }
+
+    /// From now on the rules go by these marks, a set for each in order.
+    pub fn give(&mut self, marks: Vec<Marks>) {
+        for (rule, marks) in self.rules.iter_mut().zip(marks) {
+            rule.give(marks);
+        }
+    }
+
     /// One call. The record may be any bytes and the reply buffer of any
     /// length. Gives the refusal number, or 0 when the record is taken.
     pub fn call(&mut self, record: &[u8], buffer: &mut [u8]) -> u8 {
@@ -74,12 +90,22 @@ impl Book {
             }
             Ok(Asked::Line(Line::Rule(line))) => {
                 reply::declared(buffer, &line.name);
-                let start = self.list.len();
-                self.rules.push(Rule { line, start });
+                self.join(line, &record[1..RECORD - 1]);
             }
             Ok(Asked::Act(act)) => self.offer(act, buffer),
         }
         0
+    }
+
+    /// A rule joins last, with the text of its line. Its start is the length of
+    /// the list.
+    fn join(&mut self, line: RuleLine, text: &[u8]) {
+        let found = tokens(text).unwrap_or_default();
+        self.rules.push(Rule {
+            line,
+            tokens: found.iter().map(Token::bytes).collect(),
+            seen: Seen::From(self.list.len()),
+        });
     }
 
     /// An act joins the list only when the work ends committed, and then it
@@ -93,6 +119,9 @@ impl Book {
         let (count, end) = work(&stand, act);
         reply::worked(buffer, count, &end);
         if let End::Committed(act) = end {
+            for rule in &mut self.rules {
+                rule.committed(&act, &self.roles);
+            }
             self.list.push(act);
         }
     }

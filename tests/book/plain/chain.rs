@@ -1,18 +1,12 @@
 //! Working an act: the chain of rules, and how the work ends.
 
-use super::matcher::matches;
 use super::meets::meets;
 use super::roles::Roles;
-use super::tree::{Act, Name, Response, RuleLine, Slot, Template};
+use super::rule::Rule;
+use super::tree::{Act, Name, Response, Slot, Template};
 
 /// The most responses worked for one act.
 pub const MOST_WORKED: usize = 64;
-
-/// A rule held; `start` is how long the list was when the rule was declared.
-pub struct Rule {
-    pub line: RuleLine,
-    pub start: usize,
-}
 
 /// How the work ends. The last three name the rule that decides.
 pub enum End {
@@ -47,8 +41,7 @@ fn look_up<'a>(stand: &Stand<'a>, act: &Act) -> Vec<&'a Rule> {
     let mut rules: Vec<&Rule> = stand.rules.iter().collect();
     rules.reverse();
     rules.retain(|rule| {
-        meets(act, &rule.line.trigger, stand.roles)
-            && matches(&rule.line.past, &stand.list[rule.start..], stand.roles)
+        meets(act, &rule.line.trigger, stand.roles) && rule.matches(stand.list, stand.roles)
     });
     rules
 }

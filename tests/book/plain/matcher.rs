@@ -16,7 +16,7 @@ pub fn matches(past: &Past, acts: &[Act], roles: &Roles) -> bool {
 
 /// Every point `e` for which some point `s` of the starts has the past match
 /// the acts from `s` up to `e`.
-fn ends(past: &Past, acts: &[Act], roles: &Roles, starts: &[usize]) -> Points {
+pub fn ends(past: &Past, acts: &[Act], roles: &Roles, starts: &[usize]) -> Points {
     match past {
         Past::Pattern(condition) => pattern_ends(condition, acts, roles, starts),
         Past::Empty => starts.to_vec(),
@@ -50,7 +50,7 @@ fn pattern_ends(pattern: &Condition, acts: &[Act], roles: &Roles, starts: &[usiz
 /// in it, the ends of the inside from there (the inside, then the star again).
 /// Only points not met before are followed, so a round that matches the empty
 /// list adds none and the loop stops.
-fn star_ends(inside: &Past, acts: &[Act], roles: &Roles, starts: &[usize]) -> Points {
+pub fn star_ends(inside: &Past, acts: &[Act], roles: &Roles, starts: &[usize]) -> Points {
     let mut met = vec![false; acts.len() + 1];
     let mut reached = Points::new();
     let mut fresh = starts.to_vec();

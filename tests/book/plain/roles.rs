@@ -4,11 +4,13 @@ use super::tree::Name;
 
 /// A role, and the place of its parent among those held. `top` is held from
 /// the start and is the one role without a parent.
+#[derive(Clone)]
 struct Role {
     name: Name,
     parent: Option<usize>,
 }
 
+#[derive(Clone)]
 pub struct Roles {
     held: Vec<Role>,
 }
@@ -30,6 +32,13 @@ impl Roles {
     /// In declared order, top first.
     pub fn names(&self) -> impl Iterator<Item = &Name> {
         self.held.iter().map(|role| &role.name)
+    }
+
+    /// In declared order without top, each with its parent.
+    pub fn with_parents(&self) -> impl Iterator<Item = (&Name, &Name)> {
+        self.held
+            .iter()
+            .filter_map(|r| Some((&r.name, &self.held[r.parent?].name)))
     }
 
     pub fn holds(&self, name: &[u8]) -> bool {

@@ -1,5 +1,5 @@
 //! What the refusals need to know of a line: the roles it uses, and how many
-//! patterns its past has.
+//! patterns its past has. And these patterns themselves, for the marks.
 
 use super::tree::{Condition, Name, Past, Response, RuleLine, Slot};
 
@@ -10,6 +10,16 @@ pub fn patterns(past: &Past) -> usize {
         Past::Empty => 0,
         Past::Side(parts) | Past::Either(parts) => parts.iter().map(patterns).sum(),
         Past::Star(inside) => patterns(inside),
+    }
+}
+
+/// The patterns of a past from the left: the first is number 1.
+pub fn conditions(past: &Past) -> Vec<&Condition> {
+    match past {
+        Past::Pattern(condition) => vec![condition],
+        Past::Empty => Vec::new(),
+        Past::Side(parts) | Past::Either(parts) => parts.iter().flat_map(conditions).collect(),
+        Past::Star(inside) => conditions(inside),
     }
 }
 

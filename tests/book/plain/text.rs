@@ -20,7 +20,17 @@ pub enum Token<'a> {
     Sign(u8),
 }
 
-fn in_word(byte: u8) -> bool {
+impl Token<'_> {
+    pub fn bytes(&self) -> Vec<u8> {
+        match self {
+            Token::Word(word) => word.to_vec(),
+            Token::Sign(sign) => vec![*sign],
+        }
+    }
+}
+
+/// Whether the byte is of a word.
+pub fn in_word(byte: u8) -> bool {
     (2..=4).contains(&class(byte))
 }
 

@@ -1,7 +1,8 @@
 //! What is seen in operations.
 
 use super::Tally;
-use crate::operations::{Batch, Operation, MOST, TURNED_AWAY};
+use crate::batch::{Batch, MOST, TURNED_AWAY};
+use crate::operations::Operation;
 use crate::plain::book::RECORD;
 use crate::plain::reply::LENGTH;
 use crate::session::Answer;
@@ -15,12 +16,12 @@ impl Tally {
             }
             turned_away = false;
             match operation {
-                Operation::Call(_) => {}
                 Operation::Batch(batch) if answer.number == TURNED_AWAY => {
                     turned_away = true;
                     self.turned_away(batch);
                 }
                 Operation::Batch(_) => self.taken(&answer.reply),
+                _ => {}
             }
         }
     }

@@ -3,10 +3,20 @@
 mod batches;
 mod calls;
 mod demanded;
+mod images;
+mod keeps;
+mod restores;
+mod why;
+
+pub use images::Watch;
 
 use std::collections::{BTreeMap, BTreeSet};
 
 use crate::flat::Flat;
+use crate::judging::Question;
+use crate::operations::HIGHEST_KIND;
+use crate::plain::book::RECORD;
+use crate::plain::restore::restored;
 use demanded::DEMANDED;
 
 /// How many of the counts go no higher than `most`.
@@ -35,25 +45,42 @@ impl Tally {
 
     /// What was refused as a whole.
     pub fn misfit(&mut self, misfit: &Flat) {
-        match &misfit.kinds {
-            None => self.count("session that doesn't fit, 11"),
-            Some(kinds) if kinds.iter().any(|&kind| kind > 1) => {
-                self.count("operations with another kind, 11")
+        let (counts, lengths) = (misfit.counts.len(), misfit.lengths.len());
+        let what = match &misfit.kinds {
+            None => "session that doesn't fit, 11",
+            Some(kinds) if kinds.iter().any(|&kind| kind > HIGHEST_KIND) => {
+                "operations with another kind, 11"
             }
-            Some(_) => self.count("operations that don't fit, 11"),
-        }
+            Some(kinds) if kinds.len() == lengths && counts > lengths => {
+                "operations with a count too many, 11"
+            }
+            Some(kinds) if kinds.len() == lengths && counts < lengths => {
+                "operations with a count too few, 11"
+            }
+            Some(_) => "operations that don't fit, 11",
+        };
+        self.count(what);
     }
 
     /// `answer` as the judge gives it: the refusal times 2^32, and 1 for yes.
-    pub fn judged(&mut self, answer: u64, records: usize) {
-        if answer <= 1 && records == 256 {
+    pub fn judged(&mut self, question: &Question, answer: u64) {
+        if answer <= 1 && question.records.len() == 256 * RECORD {
             self.count("judge yes or no, of 256 records");
+        }
+        let image = restored(&question.sheet).is_some();
+        if answer <= 1 && image {
+            self.count("judge yes or no, the sheet an image");
         }
         match answer {
             0 => self.count("judge no"),
             1 => self.count("judge yes"),
             _ => self.count(&format!("judge {}", answer >> 32)),
         }
+    }
+
+    /// What was seen in a session with places to return to.
+    pub fn watched(&mut self, watch: &Watch) {
+        watch.seen.iter().for_each(|what| self.count(what));
     }
 
     fn times(&self, what: &str) -> usize {

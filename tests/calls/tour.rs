@@ -1,0 +1,131 @@
+//! A session with places to return to, while it is made: the book steps along, so
+//! that images can be chosen by what the session wrote so far, and acts by what
+//! is held after a return.
+
+use crate::acts::{self, named};
+use crate::batch::Batch;
+use crate::language;
+use crate::operations::Operation;
+use crate::plain::places::Places;
+use crate::plain::reply;
+use crate::random::Random;
+use crate::session::{Answer, Call};
+use crate::spell::{record, text, tokens, Tokens};
+use crate::tally::Watch;
+use crate::words;
+
+pub struct Tour {
+    pub random: Random,
+    pub places: Places,
+    pub operations: Vec<Operation>,
+    pub answers: Vec<Answer>,
+    /// What is seen on the way.
+    pub watch: Watch,
+    /// By which each way to change an image has its turn.
+    pub turn: usize,
+    /// Whether no image from elsewhere may enter.
+    pub own_only: bool,
+}
+
+/// A tour of the session of that number: these operations, and between them
+/// stops; afterwards some stops more.
+pub fn made(random: &mut Random, number: usize, operations: Vec<Operation>, more: usize) -> Tour {
+    let mut tour = Tour::new(Random::new(random.next()), number);
+    // About as many stops in a long session as in a short one.
+    let percent = (1600 / operations.len()).clamp(1, 50);
+    for (at, operation) in operations.into_iter().enumerate() {
+        // As long as little is held there is little to return to.
+        let percent = if at < 5 { 5 } else { percent };
+        while tour.random.chance(percent) {
+            tour.stop();
+        }
+        tour.step(operation);
+    }
+    for _ in 0..tour.random.between(2, more) {
+        tour.stop();
+    }
+    tour
+}
+
+impl Tour {
+    fn new(mut random: Random, number: usize) -> Tour {
+        Tour {
+            own_only: random.chance(40),
+            random,
+            places: Places::fresh(),
+            operations: Vec::new(),
+            answers: Vec::new(),
+            watch: Watch::default(),
+            turn: 5 * number,
+        }
+    }
+
+    pub fn step(&mut self, operation: Operation) {
+        self.watch.before(&self.places, &operation);
+        let answer = operation.step(&mut self.places);
+        self.watch.after(&self.places, &operation, &answer);
+        self.operations.push(operation);
+        self.answers.push(answer);
+    }
+
+    /// Keeping, returning or a line, and mostly acts for the rules then held.
+    fn stop(&mut self) {
+        match self.random.below(10) {
+            0..=3 => self.keep(),
+            4..=8 => self.restore(),
+            _ => self.declare(),
+        }
+        for _ in 0..self.random.below(3) {
+            self.lead();
+        }
+    }
+
+    /// A call with a record of these tokens, unless they have no room.
+    fn call(&mut self, kind: u8, tokens: &Tokens) -> Option<Call> {
+        let text = text(&mut self.random, tokens)?;
+        Some(Call {
+            record: record(kind, &text),
+            lent: self.random.bytes(reply::LENGTH),
+        })
+    }
+
+    fn tell(&mut self, kind: u8, tokens: &Tokens) {
+        if let Some(call) = self.call(kind, tokens) {
+            self.step(Operation::Call(call));
+        }
+    }
+
+    /// A rule or a role by a line, beside those that an image brought.
+    fn declare(&mut self) {
+        let names = self.places.book().roles().names();
+        let names: Vec<String> = names
+            .map(|name| String::from_utf8_lossy(name).into_owned())
+            .collect();
+        let random = &mut self.random;
+        let made = if random.chance(70) {
+            language::rule(random, &names)
+        } else {
+            let (name, parent) = (words::name(random), random.pick(&names));
+            tokens(&["role", &name, "under", parent])
+        };
+        self.tell(b'L', &made);
+    }
+
+    /// Acts that may lead one of the rules held to work, one by one or in a batch.
+    fn lead(&mut self) {
+        let book = self.places.book();
+        if book.rules().is_empty() {
+            return;
+        }
+        let rule = self.random.pick(book.rules());
+        let marks = rule.marks(book.list(), book.roles());
+        let acts = acts::onward(&mut self.random, book.roles(), rule, &marks);
+        let tokens: Vec<Tokens> = acts.iter().map(named).collect();
+        if self.random.chance(60) {
+            return tokens.iter().for_each(|act| self.tell(b'E', act));
+        }
+        let calls = tokens.iter().filter_map(|act| self.call(b'E', act));
+        let calls: Vec<Call> = calls.collect();
+        self.step(Operation::Batch(Batch::of(&calls)));
+    }
+}
