@@ -17,9 +17,6 @@ Inv-loop rule-names positions count out₀ at next₀ i₀ out next i = Going (m
 abbrev μ-loop : tie.MeasureT-loop
 μ-loop rule-names positions count out₀ at next₀ i₀ out next i = count - i
 
-loop-holds : tie.Need-loop-holds Inv-loop μ-loop
-loop-holds c = going-start _ _ _ _
-
 loop-again : tie.Need-loop-again Inv-loop μ-loop
 loop-again c =
     let t = c .before .before in
@@ -30,19 +27,13 @@ loop-again c =
     let e = r .mark-record .ensures ∙ ap₂ (λ (x y : ℕ). markRecord digits (unpacked x) y) (n .number-at .ensures) (p .number-at2 .ensures) in
     going-more (l .before .loop .inv) (l .loop-test .taken) e (t .text .ensures)
 
-same-length : tie.Need-same-length Inv-loop μ-loop
-same-length c = writes-length (c .before .loop .inv .written)
-
-returns : tie.Need-returns Inv-loop μ-loop
-returns c = going-end (c .before .loop .inv) (c .loop-test .left)
-
 pub put-marks-spec : {M : Type 1} → statement M
 put-marks-spec =
     tie.close
     (tie.spec
     Inv-loop
     μ-loop
-    loop-holds
+    (λ c. going-start _ _ _ _)
     (λ c κs. search needs)
     (λ c κs. search needs)
     (λ c κs. search needs)
@@ -51,5 +42,5 @@ put-marks-spec =
     (λ c. search needs)
     (λ c. search needs)
     loop-again
-    same-length
-    returns)
+    (λ c. writes-length (c .before .loop .inv .written))
+    (λ c. going-end (c .before .loop .inv) (c .loop-test .left)))

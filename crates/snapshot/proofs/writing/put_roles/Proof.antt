@@ -20,9 +20,6 @@ Inv-loop names parents count out₀ next₀ i₀ out next i = Going (roleAt name
 abbrev μ-loop : tie.MeasureT-loop
 μ-loop names parents count out₀ next₀ i₀ out next i = count - i
 
-loop-holds : tie.Need-loop-holds Inv-loop μ-loop
-loop-holds c = going-start _ _ _ _
-
 loop-again : tie.Need-loop-again Inv-loop μ-loop
 loop-again c =
     let t = c .before .before in
@@ -35,19 +32,13 @@ loop-again c =
     (p .parent-name .ensures ∙ ap (λ (j : ℕ). parentIn (a .names .now) (a .parents .now) j) (add-one (l .before .loop .i))) in
     going-more (l .before .loop .inv) (l .loop-test .taken) e (t .text .ensures)
 
-same-length : tie.Need-same-length Inv-loop μ-loop
-same-length c = writes-length (c .before .loop .inv .written)
-
-returns : tie.Need-returns Inv-loop μ-loop
-returns c = going-end (c .before .loop .inv) (c .loop-test .left)
-
 pub put-roles-spec : {M : Type 1} → statement M
 put-roles-spec =
     tie.close
     (tie.spec
     Inv-loop
     μ-loop
-    loop-holds
+    (λ c. going-start _ _ _ _)
     (λ c. search needs)
     (λ c κs. search needs)
     (λ c κs. search needs)
@@ -57,5 +48,5 @@ put-roles-spec =
     (λ c. search needs)
     (λ c. search needs)
     loop-again
-    same-length
-    returns)
+    (λ c. writes-length (c .before .loop .inv .written))
+    (λ c. going-end (c .before .loop .inv) (c .loop-test .left)))

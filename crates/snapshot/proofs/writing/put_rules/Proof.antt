@@ -20,9 +20,6 @@ Inv-loop names rule-names rows count out₀ at next₀ i₀ out next i = Going (
 abbrev μ-loop : tie.MeasureT-loop
 μ-loop names rule-names rows count out₀ at next₀ i₀ out next i = count - i
 
-loop-holds : tie.Need-loop-holds Inv-loop μ-loop
-loop-holds c = going-start _ _ _ _
-
 loop-again : tie.Need-loop-again Inv-loop μ-loop
 loop-again c =
     let t = c .before .before in
@@ -35,19 +32,13 @@ loop-again c =
     let e = r .rule-record .ensures ∙ ap₂ (λ (x : ℕ) (y : List ℕ). textRecord lineByte (ruleText (a .names .now) x y)) (n .number-at .ensures) (k .code-of .ensures ∙ ap codeOf (w .row .ensures)) in
     going-more (l .before .loop .inv) (l .loop-test .taken) e (t .text .ensures)
 
-same-length : tie.Need-same-length Inv-loop μ-loop
-same-length c = writes-length (c .before .loop .inv .written)
-
-returns : tie.Need-returns Inv-loop μ-loop
-returns c = going-end (c .before .loop .inv) (c .loop-test .left)
-
 pub put-rules-spec : {M : Type 1} → statement M
 put-rules-spec =
     tie.close
     (tie.spec
     Inv-loop
     μ-loop
-    loop-holds
+    (λ c. going-start _ _ _ _)
     (λ c κs. search needs)
     (λ c κs. search needs)
     (λ c κs. search needs)
@@ -57,5 +48,5 @@ put-rules-spec =
     (λ c. search needs)
     (λ c. search needs)
     loop-again
-    same-length
-    returns)
+    (λ c. writes-length (c .before .loop .inv .written))
+    (λ c. going-end (c .before .loop .inv) (c .loop-test .left)))
