@@ -2,14 +2,14 @@
 //! for byte, with the stored ones.
 //!
 //! The arguments are the directory of the sessions (see `stored.rs`) and, where
-//! they are to be compared too, that of the visits (see `visits.rs`).
+//! they are to be compared too, that of the sessions with images (see `stored_images.rs`).
 
 #![forbid(unsafe_code)]
 
+mod images;
 mod plain;
-mod returning;
 mod stored;
-mod visits;
+mod stored_images;
 
 use std::path::Path;
 
@@ -20,7 +20,7 @@ fn main() {
     let directories: Vec<_> = std::env::args_os().skip(1).collect();
     let told = match &directories[..] {
         [sessions] => compare_all(Path::new(sessions)),
-        [sessions, visits] => compare_both(Path::new(sessions), Path::new(visits)),
+        [sessions, images] => compare_both(Path::new(sessions), Path::new(images)),
         _ => Err("book: give the directory of the sessions".to_string()),
     };
     match told {
@@ -32,10 +32,10 @@ fn main() {
     }
 }
 
-fn compare_both(sessions: &Path, visits: &Path) -> Result<String, String> {
+fn compare_both(sessions: &Path, images: &Path) -> Result<String, String> {
     let of_sessions = compare_all(sessions)?;
-    let of_visits = returning::compare_all(visits)?;
-    Ok(format!("{of_sessions}\n{of_visits}"))
+    let of_images = images::compare_all(images)?;
+    Ok(format!("{of_sessions}\n{of_images}"))
 }
 
 /// Every stored session; stops at the first difference.

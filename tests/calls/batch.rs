@@ -1,8 +1,8 @@
 //! Batches of records.
 
 use crate::plain::book::RECORD;
-use crate::plain::places::Places;
 use crate::plain::reply;
+use crate::plain::session_book::SessionBook;
 use crate::session::{self, Answer, Call};
 
 /// The most records of a batch.
@@ -35,14 +35,14 @@ impl Batch {
     }
 
     /// One record after the other, each with its own 50 bytes.
-    pub fn step(&self, places: &mut Places) -> Answer {
+    pub fn step(&self, book: &mut SessionBook) -> Answer {
         let mut reply = self.lent.clone();
         if self.turned_away() {
             return Answer::new(TURNED_AWAY, reply);
         }
         let own = reply.chunks_mut(reply::LENGTH);
         for (record, own) in self.records.chunks(RECORD).zip(own) {
-            places.call(record, own);
+            book.call(record, own);
         }
         Answer::new(0, reply)
     }

@@ -1,10 +1,11 @@
 //! One session through the book and the library: its calls, questions to the judge
-//! about it, the same calls as operations, with places to return to between them,
+//! about it, the same calls as operations, with images kept and restored between them,
 //! and some that don't fit.
 
 use crate::cut::cut;
 use crate::file;
 use crate::flat::Flat;
+use crate::image_session;
 use crate::images;
 use crate::judging;
 use crate::misfit;
@@ -12,7 +13,6 @@ use crate::operations::{self, Operation};
 use crate::session;
 use crate::stage::Stage;
 use crate::tally::Tally;
-use crate::tour;
 
 /// Why it failed, and the text by which it is replayed.
 pub type Failed = (String, String);
@@ -23,7 +23,7 @@ pub fn compare(number: usize, stage: &mut Stage, tally: &mut Tally) -> Result<()
     compare_judge(stage, tally)?;
     compare_misfit(stage, session::flat(&stage.calls), tally)?;
     compare_operations(number, stage, tally)?;
-    compare_tours(number, stage, tally)
+    compare_image_sessions(number, stage, tally)
 }
 
 fn compare_calls(stage: &Stage, tally: &mut Tally) -> Result<(), Failed> {
@@ -58,28 +58,32 @@ fn compare_operations(number: usize, stage: &mut Stage, tally: &mut Tally) -> Re
 
 /// Images come in between, so the calls may meet another monitor than the one
 /// that they were made for. A small session has few calls and many images.
-fn compare_tours(number: usize, stage: &mut Stage, tally: &mut Tally) -> Result<(), Failed> {
+fn compare_image_sessions(
+    number: usize,
+    stage: &mut Stage,
+    tally: &mut Tally,
+) -> Result<(), Failed> {
     let operations = cut(&mut stage.random, number, &stage.calls);
-    compare_tour(number, stage, operations, 8, tally)?;
+    compare_image_session(number, stage, operations, 8, tally)?;
     let small = images::small(&mut stage.random).calls;
     let operations = small.into_iter().map(Operation::Call).collect();
-    compare_tour(number, stage, operations, 50, tally)
+    compare_image_session(number, stage, operations, 50, tally)
 }
 
-fn compare_tour(
+fn compare_image_session(
     number: usize,
     stage: &mut Stage,
     operations: Vec<Operation>,
-    stops: usize,
+    steps: usize,
     tally: &mut Tally,
 ) -> Result<(), Failed> {
-    let tour = tour::made(&mut stage.random, number, operations, stops);
-    if let Some(why) = operations::difference(&tour.operations, &tour.answers) {
-        return Err((why, file::operations_text(&tour.operations)));
+    let made = image_session::made(&mut stage.random, number, operations, steps);
+    if let Some(why) = operations::difference(&made.operations, &made.answers) {
+        return Err((why, file::operations_text(&made.operations)));
     }
-    tally.operations(&tour.operations, &tour.answers);
-    tally.watched(&tour.watch);
-    compare_misfit(stage, operations::flat(&tour.operations), tally)
+    tally.operations(&made.operations, &made.answers);
+    tally.watched(&made.watch);
+    compare_misfit(stage, operations::flat(&made.operations), tally)
 }
 
 fn compare_misfit(stage: &mut Stage, fitting: Flat, tally: &mut Tally) -> Result<(), Failed> {

@@ -1,7 +1,7 @@
 //! Keeping an image and returning to one.
 
 use crate::plain::book::RECORD;
-use crate::plain::places::Places;
+use crate::plain::session_book::SessionBook;
 use crate::session::{self, Answer};
 
 /// Keeping: the buffer for the image as it is lent. The record bytes are any, and
@@ -18,9 +18,9 @@ pub struct Restore {
 }
 
 impl Keep {
-    pub fn step(&self, places: &mut Places) -> Answer {
+    pub fn step(&self, book: &mut SessionBook) -> Answer {
         let mut reply = self.lent.clone();
-        let (number, count) = places.keep(&mut reply);
+        let (number, count) = book.keep(&mut reply);
         Answer {
             number,
             reply,
@@ -49,8 +49,8 @@ impl Keep {
 }
 
 impl Restore {
-    pub fn step(&self, places: &mut Places) -> Answer {
-        Answer::new(places.restore(&self.image), self.lent.clone())
+    pub fn step(&self, book: &mut SessionBook) -> Answer {
+        Answer::new(book.restore(&self.image), self.lent.clone())
     }
 
     pub fn shown(&self, due: &Answer, library: &Answer) -> String {

@@ -4,7 +4,7 @@
 //! `calls [COUNT] [SEED]`: at least COUNT calls; fails at the first difference,
 //! and when something that should have occurred didn't.
 //! `calls stored DIRECTORY`: the stored sessions in batches.
-//! `calls images DIRECTORY`: the stored visits, which keep images and return to them.
+//! `calls images DIRECTORY`: the stored sessions with images.
 //! `calls replay FILE`: a failing session again.
 
 mod acts;
@@ -13,6 +13,8 @@ mod compare;
 mod cut;
 mod file;
 mod flat;
+mod image_session;
+mod image_steps;
 mod images;
 mod judging;
 mod keeping;
@@ -31,15 +33,13 @@ mod spell;
 mod spoil;
 mod stage;
 mod stand;
-mod stops;
 mod stored;
+#[path = "../book/stored_images.rs"]
+mod stored_image_sessions;
+mod stored_images;
 #[path = "../book/stored.rs"]
 mod stored_sessions;
-#[path = "../book/visits.rs"]
-mod stored_visits;
 mod tally;
-mod tour;
-mod visits;
 mod words;
 
 use std::path::Path;
@@ -55,7 +55,7 @@ fn main() {
     let told = match words.first().map(String::as_str) {
         Some("replay") => path(words.get(1)).and_then(replay::replay),
         Some("stored") => path(words.get(1)).and_then(stored::compare_all),
-        Some("images") => path(words.get(1)).and_then(visits::compare_all),
+        Some("images") => path(words.get(1)).and_then(stored_images::compare_all),
         _ => numbers(&words).and_then(|(count, seed)| run(count, seed)),
     };
     match told {

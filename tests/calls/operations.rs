@@ -4,7 +4,7 @@
 use crate::batch::Batch;
 use crate::flat::Flat;
 use crate::keeping::{Keep, Restore};
-use crate::plain::places::Places;
+use crate::plain::session_book::SessionBook;
 use crate::session::{self, Answer, Call};
 
 pub enum Operation {
@@ -42,23 +42,23 @@ impl Operation {
     }
 
     /// One step of the book.
-    pub fn step(&self, places: &mut Places) -> Answer {
+    pub fn step(&self, book: &mut SessionBook) -> Answer {
         match self {
             Operation::Call(call) => {
                 let mut reply = call.lent.clone();
-                let number = places.call(&call.record, &mut reply);
+                let number = book.call(&call.record, &mut reply);
                 Answer::new(number, reply)
             }
-            Operation::Batch(batch) => batch.step(places),
-            Operation::Keep(keep) => keep.step(places),
-            Operation::Restore(restore) => restore.step(places),
+            Operation::Batch(batch) => batch.step(book),
+            Operation::Keep(keep) => keep.step(book),
+            Operation::Restore(restore) => restore.step(book),
         }
     }
 }
 
 pub fn by_book(operations: &[Operation]) -> Vec<Answer> {
-    let mut places = Places::fresh();
-    operations.iter().map(|o| o.step(&mut places)).collect()
+    let mut book = SessionBook::fresh();
+    operations.iter().map(|o| o.step(&mut book)).collect()
 }
 
 pub fn flat(operations: &[Operation]) -> Flat {

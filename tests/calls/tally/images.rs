@@ -1,11 +1,11 @@
-//! What is seen in sessions with places to return to.
+//! What is seen in sessions with images.
 
 use crate::operations::Operation;
 use crate::plain::book::Book;
 use crate::plain::image::image;
-use crate::plain::places::Places;
 use crate::plain::reply::LENGTH;
 use crate::plain::rule::{Rule, Seen};
+use crate::plain::session_book::SessionBook;
 use crate::session::Answer;
 
 /// What one session shows, operation by operation.
@@ -50,24 +50,24 @@ impl Watch {
         self.seen.push(what.into());
     }
 
-    pub fn before(&mut self, places: &Places, operation: &Operation) {
-        self.entered = places.entered();
+    pub fn before(&mut self, book: &SessionBook, operation: &Operation) {
+        self.entered = book.entered();
         if let Operation::Restore(_) = operation {
-            self.held = image(places.book());
+            self.held = image(book.now());
         }
     }
 
-    pub fn after(&mut self, places: &Places, operation: &Operation, answer: &Answer) {
+    pub fn after(&mut self, book: &SessionBook, operation: &Operation, answer: &Answer) {
         let last = std::mem::take(&mut self.last);
         match operation {
-            Operation::Keep(keep) => self.keep(places, keep, answer),
-            Operation::Restore(restore) => self.restore(places, restore, answer),
+            Operation::Keep(keep) => self.keep(book, keep, answer),
+            Operation::Restore(restore) => self.restore(book, restore, answer),
             Operation::Call(_) | Operation::Batch(_) if answer.number == 0 => {
                 let replies = answer.reply.chunks(LENGTH);
                 if replies.clone().any(|reply| reply[0] != b'R') {
                     self.next(last, operation);
                 }
-                replies.for_each(|reply| self.reply(places.book(), reply));
+                replies.for_each(|reply| self.reply(book.now(), reply));
             }
             _ => {}
         }

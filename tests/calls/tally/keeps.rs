@@ -4,24 +4,24 @@ use super::images::{Last, Watch};
 use crate::keeping::Keep;
 use crate::plain::book::{Book, RECORD};
 use crate::plain::image::image;
-use crate::plain::places::{Places, TOO_SHORT};
+use crate::plain::session_book::{SessionBook, TOO_SHORT};
 use crate::session::Answer;
 
 /// The most records of an image.
 const MOST: usize = 127;
 
 impl Watch {
-    pub fn keep(&mut self, places: &Places, keep: &Keep, answer: &Answer) {
+    pub fn keep(&mut self, book: &SessionBook, keep: &Keep, answer: &Answer) {
         if answer.number == TOO_SHORT {
-            return self.too_short(places.book(), keep.lent.len());
+            return self.too_short(book.now(), keep.lent.len());
         }
         self.kept.push(self.committed);
         self.buffer(keep.lent.len(), answer.count as usize);
-        self.image_of(places.book(), answer.count as usize);
+        self.image_of(book.now(), answer.count as usize);
         if !keep.records.is_empty() {
             self.count("keep: with record bytes, not looked at");
         }
-        if places.entered() {
+        if book.entered() {
             self.count("keep: after an image from elsewhere");
         }
     }

@@ -78,7 +78,7 @@ impl Tally {
         }
     }
 
-    /// What was seen in a session with places to return to.
+    /// What was seen in a session with images.
     pub fn watched(&mut self, watch: &Watch) {
         watch.seen.iter().for_each(|what| self.count(what));
     }

@@ -6,8 +6,8 @@ use crate::keeping::Restore;
 use crate::plain::book::RECORD;
 use crate::plain::image::image;
 use crate::plain::marks::Marks;
-use crate::plain::places::{Places, NO_IMAGE};
 use crate::plain::rule::Seen;
+use crate::plain::session_book::{SessionBook, NO_IMAGE};
 use crate::session::Answer;
 
 /// The lines of an image.
@@ -17,7 +17,7 @@ fn lines(image: &[u8]) -> Vec<&[u8]> {
 }
 
 impl Watch {
-    pub fn restore(&mut self, places: &Places, restore: &Restore, answer: &Answer) {
+    pub fn restore(&mut self, book: &SessionBook, restore: &Restore, answer: &Answer) {
         if answer.number == NO_IMAGE {
             self.last = Last::Refused(NO_IMAGE);
             return self.count(format!("restore 12: {}", why(&restore.image)));
@@ -29,14 +29,14 @@ impl Watch {
         if restore.image.is_empty() {
             self.count("restore: the empty image");
         }
-        let mut own = places.kept().iter();
+        let mut own = book.kept().iter();
         match own.rposition(|p| p.image == restore.image) {
             Some(at) if !self.entered => self.back_to_history(at, &restore.image),
             Some(_) => {
                 self.back = Back::ToMarks;
                 self.count("restore: an own image after one from elsewhere");
             }
-            None => self.back_to_marks(places, &restore.image),
+            None => self.back_to_marks(book, &restore.image),
         }
     }
 
@@ -55,18 +55,18 @@ impl Watch {
         }
     }
 
-    fn back_to_marks(&mut self, places: &Places, given: &[u8]) {
+    fn back_to_marks(&mut self, book: &SessionBook, given: &[u8]) {
         self.back = Back::ToMarks;
         self.count("restore: an image from elsewhere");
         // All but spaces within lines is as keeping writes it.
-        if image(places.book()) != given {
+        if image(book.now()) != given {
             self.count("restore: other spaces");
         }
-        let mut own = places.kept().iter().filter(|own| !own.image.is_empty());
+        let mut own = book.kept().iter().filter(|own| !own.image.is_empty());
         if own.any(|own| lines(&own.image) == lines(given)) {
             self.count("restore: an own image with other marks");
         }
-        for rule in places.book().rules() {
+        for rule in book.now().rules() {
             if let Seen::Given(followed) = &rule.seen {
                 self.given(&followed.marks);
             }

@@ -1,4 +1,4 @@
-//! The book of a session with places to return to: each image that keeping wrote
+//! The book of a session with images (document 02: places to return to): each image that keeping wrote
 //! is remembered with the book of that moment.
 
 use super::book::{Book, RECORD};
@@ -11,33 +11,34 @@ pub const NO_IMAGE: u8 = 12;
 /// The number of a buffer too short to keep into.
 pub const TOO_SHORT: u8 = 13;
 
-pub struct Places {
+pub struct SessionBook {
     book: Book,
-    kept: Vec<Place>,
+    kept: Vec<Snapshot>,
     entered: bool,
 }
 
 /// An image written in this session, and the book of that moment.
-pub struct Place {
+pub struct Snapshot {
     pub image: Vec<u8>,
     book: Book,
 }
 
-impl Places {
-    pub fn fresh() -> Places {
-        Places {
+impl SessionBook {
+    pub fn fresh() -> SessionBook {
+        SessionBook {
             book: Book::fresh(),
             kept: Vec::new(),
             entered: false,
         }
     }
 
-    pub fn book(&self) -> &Book {
+    /// The book now.
+    pub fn now(&self) -> &Book {
         &self.book
     }
 
     /// In the order of keeping, some of them equal maybe.
-    pub fn kept(&self) -> &[Place] {
+    pub fn kept(&self) -> &[Snapshot] {
         &self.kept
     }
 
@@ -61,7 +62,7 @@ impl Places {
         // What is lent behind the image stays as it is.
         buffer[..image.len()].copy_from_slice(&image);
         let records = image.len() / RECORD;
-        self.kept.push(Place {
+        self.kept.push(Snapshot {
             image,
             book: self.book.clone(),
         });
@@ -72,9 +73,9 @@ impl Places {
     pub fn restore(&mut self, image: &[u8]) -> u8 {
         // Of equal images any will do: what comes later follows from the marks,
         // which are the same. Only the last is looked for.
-        let own = self.kept.iter().rfind(|place| place.image == image);
+        let own = self.kept.iter().rfind(|snapshot| snapshot.image == image);
         match own {
-            Some(place) if !self.entered => self.book = place.book.clone(),
+            Some(snapshot) if !self.entered => self.book = snapshot.book.clone(),
             _ => match restored(image) {
                 None => return NO_IMAGE,
                 Some(book) => {

@@ -1,4 +1,4 @@
-//! Stored visits, sessions with places to return to: a directory with `names.txt`,
+//! Stored sessions with images: a directory with `names.txt`,
 //! which lists them one to a line, and for each NAME the file `NAME.txt`.
 //!
 //! In such a file a line at the margin says what is done, and the lines set in by
@@ -16,7 +16,7 @@ use std::path::Path;
 use crate::plain::book::RECORD;
 use crate::plain::reply;
 
-pub struct Visit {
+pub struct StoredSession {
     pub name: String,
     pub steps: Vec<Step>,
 }
@@ -41,13 +41,14 @@ impl Step {
     }
 }
 
-/// Every visit that `names.txt` lists, of which there is at least one.
-pub fn visits(directory: &Path) -> Result<Vec<Visit>, String> {
+/// Every session that `names.txt` lists, of which there is at least one.
+pub fn sessions(directory: &Path) -> Result<Vec<StoredSession>, String> {
     let names = read(&directory.join("names.txt"))?;
     let names = names.lines().map(str::trim).filter(|n| !n.is_empty());
-    let visits: Result<Vec<Visit>, String> = names.map(|n| visit(directory, n)).collect();
-    match visits {
-        Ok(none) if none.is_empty() => Err("names.txt lists no visit".to_string()),
+    let sessions: Result<Vec<StoredSession>, String> =
+        names.map(|n| session(directory, n)).collect();
+    match sessions {
+        Ok(none) if none.is_empty() => Err("names.txt lists no session".to_string()),
         told => told,
     }
 }
@@ -56,7 +57,7 @@ fn read(path: &Path) -> Result<String, String> {
     std::fs::read_to_string(path).map_err(|error| format!("{}: {error}", path.display()))
 }
 
-fn visit(directory: &Path, name: &str) -> Result<Visit, String> {
+fn session(directory: &Path, name: &str) -> Result<StoredSession, String> {
     let text = read(&directory.join(format!("{name}.txt")))?;
     let told = |line: &&str| !line.is_empty() && !line.starts_with('#');
     let lines: Vec<&str> = text.lines().filter(told).collect();
@@ -69,7 +70,7 @@ fn visit(directory: &Path, name: &str) -> Result<Visit, String> {
         steps.push(step(head, &below).ok_or_else(|| format!("{name}: wrong: {head}"))?);
         rest = next;
     }
-    Ok(Visit {
+    Ok(StoredSession {
         name: name.to_string(),
         steps,
     })

@@ -1,4 +1,4 @@
-//! Stored visits through the library and through the book: both give the replies,
+//! Stored sessions with images through the library and through the book: both give the replies,
 //! the images and the numbers that are stored.
 
 use std::path::Path;
@@ -6,10 +6,10 @@ use std::path::Path;
 use crate::keeping::{Keep, Restore};
 use crate::operations::{by_book, difference, shown, Operation};
 use crate::plain::book::RECORD;
-use crate::plain::places::TOO_SHORT;
 use crate::plain::reply;
+use crate::plain::session_book::TOO_SHORT;
 use crate::session::{Answer, Call};
-use crate::stored_visits::{visits, Step};
+use crate::stored_image_sessions::{sessions, Step};
 
 /// A byte that no reply and no image has, so that one left unfilled shows.
 const LENT: u8 = 0xAA;
@@ -18,15 +18,15 @@ const LENT: u8 = 0xAA;
 type Due = (Operation, Answer);
 
 pub fn compare_all(directory: &Path) -> Result<String, String> {
-    let visits = visits(directory).map_err(|why| format!("calls: {why}"))?;
+    let sessions = sessions(directory).map_err(|why| format!("calls: {why}"))?;
     let mut count = 0;
-    for visit in &visits {
-        let due = visit.steps.iter().flat_map(due).collect();
-        count += compare(due).map_err(|why| format!("calls: {}: {why}", visit.name))?;
+    for session in &sessions {
+        let due = session.steps.iter().flat_map(due).collect();
+        count += compare(due).map_err(|why| format!("calls: {}: {why}", session.name))?;
     }
-    let visits = visits.len();
+    let sessions = sessions.len();
     Ok(format!(
-        "calls: {visits} stored visits of {count} operations, no difference"
+        "calls: {sessions} stored sessions with images, of {count} operations, no difference"
     ))
 }
 

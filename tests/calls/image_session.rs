@@ -1,4 +1,4 @@
-//! A session with places to return to, while it is made: the book steps along, so
+//! A session with images kept and restored, while it is made: the book steps along, so
 //! that images can be chosen by what the session wrote so far, and acts by what
 //! is held after a return.
 
@@ -6,17 +6,17 @@ use crate::acts::{self, named};
 use crate::batch::Batch;
 use crate::language;
 use crate::operations::Operation;
-use crate::plain::places::Places;
 use crate::plain::reply;
+use crate::plain::session_book::SessionBook;
 use crate::random::Random;
 use crate::session::{Answer, Call};
 use crate::spell::{record, text, tokens, Tokens};
 use crate::tally::Watch;
 use crate::words;
 
-pub struct Tour {
+pub struct ImageSession {
     pub random: Random,
-    pub places: Places,
+    pub book: SessionBook,
     pub operations: Vec<Operation>,
     pub answers: Vec<Answer>,
     /// What is seen on the way.
@@ -27,32 +27,37 @@ pub struct Tour {
     pub own_only: bool,
 }
 
-/// A tour of the session of that number: these operations, and between them
-/// stops; afterwards some stops more.
-pub fn made(random: &mut Random, number: usize, operations: Vec<Operation>, more: usize) -> Tour {
-    let mut tour = Tour::new(Random::new(random.next()), number);
-    // About as many stops in a long session as in a short one.
+/// The session of that number with images: these operations, and between them
+/// steps with images; afterwards some of these more.
+pub fn made(
+    random: &mut Random,
+    number: usize,
+    operations: Vec<Operation>,
+    more: usize,
+) -> ImageSession {
+    let mut session = ImageSession::new(Random::new(random.next()), number);
+    // About as many of these in a long session as in a short one.
     let percent = (1600 / operations.len()).clamp(1, 50);
     for (at, operation) in operations.into_iter().enumerate() {
         // As long as little is held there is little to return to.
         let percent = if at < 5 { 5 } else { percent };
-        while tour.random.chance(percent) {
-            tour.stop();
+        while session.random.chance(percent) {
+            session.image_step();
         }
-        tour.step(operation);
+        session.step(operation);
     }
-    for _ in 0..tour.random.between(2, more) {
-        tour.stop();
+    for _ in 0..session.random.between(2, more) {
+        session.image_step();
     }
-    tour
+    session
 }
 
-impl Tour {
-    fn new(mut random: Random, number: usize) -> Tour {
-        Tour {
+impl ImageSession {
+    fn new(mut random: Random, number: usize) -> ImageSession {
+        ImageSession {
             own_only: random.chance(40),
             random,
-            places: Places::fresh(),
+            book: SessionBook::fresh(),
             operations: Vec::new(),
             answers: Vec::new(),
             watch: Watch::default(),
@@ -61,15 +66,15 @@ impl Tour {
     }
 
     pub fn step(&mut self, operation: Operation) {
-        self.watch.before(&self.places, &operation);
-        let answer = operation.step(&mut self.places);
-        self.watch.after(&self.places, &operation, &answer);
+        self.watch.before(&self.book, &operation);
+        let answer = operation.step(&mut self.book);
+        self.watch.after(&self.book, &operation, &answer);
         self.operations.push(operation);
         self.answers.push(answer);
     }
 
-    /// Keeping, returning or a line, and mostly acts for the rules then held.
-    fn stop(&mut self) {
+    /// Keeping, restoring or a line, and mostly acts for the rules then held.
+    fn image_step(&mut self) {
         match self.random.below(10) {
             0..=3 => self.keep(),
             4..=8 => self.restore(),
@@ -97,7 +102,7 @@ impl Tour {
 
     /// A rule or a role by a line, beside those that an image brought.
     fn declare(&mut self) {
-        let names = self.places.book().roles().names();
+        let names = self.book.now().roles().names();
         let names: Vec<String> = names
             .map(|name| String::from_utf8_lossy(name).into_owned())
             .collect();
@@ -113,7 +118,7 @@ impl Tour {
 
     /// Acts that may lead one of the rules held to work, one by one or in a batch.
     fn lead(&mut self) {
-        let book = self.places.book();
+        let book = self.book.now();
         if book.rules().is_empty() {
             return;
         }

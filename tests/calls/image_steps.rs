@@ -1,5 +1,6 @@
-//! The stops of a tour: buffers to keep into, and images to return to.
+//! Keeping and restoring in a session: buffers to keep into, and images to restore.
 
+use crate::image_session::ImageSession;
 use crate::images;
 use crate::keeping::{Keep, Restore};
 use crate::operations::Operation;
@@ -7,15 +8,14 @@ use crate::plain::image::image;
 use crate::plain::reply;
 use crate::plain::restore::restored;
 use crate::spell::record;
-use crate::tour::Tour;
 
 /// A buffer that any image fits: 63 roles, 32 rules and their marks.
 const ANY_IMAGE: usize = 127 * 128;
 
-impl Tour {
+impl ImageSession {
     /// Buffers of about the image's length above all.
     pub fn keep(&mut self) {
-        let due = image(self.places.book()).len();
+        let due = image(self.book.now()).len();
         let any = self.random.below(2 * due + 300);
         let size = match self.random.below(12) {
             0..=4 => due,
@@ -63,19 +63,19 @@ impl Tour {
     }
 
     fn is_own(&self, image: &[u8]) -> bool {
-        self.places.kept().iter().any(|place| place.image == image)
+        self.book.kept().iter().any(|own| own.image == image)
     }
 
     /// An image that this session wrote, the last ones more often: they hold more.
     /// Where there is none, the session writes one first.
     fn own(&mut self) -> Vec<u8> {
-        let kept = self.places.kept();
+        let kept = self.book.kept();
         if !kept.is_empty() {
             let most = *self.random.pick(&[2, 5, kept.len()]);
             let last = &kept[kept.len().saturating_sub(most)..];
             return self.random.pick(last).image.clone();
         }
-        let image = image(self.places.book());
+        let image = image(self.book.now());
         let lent = self.random.bytes(image.len());
         let records = Vec::new();
         self.step(Operation::Keep(Keep { records, lent }));
@@ -85,7 +85,7 @@ impl Tour {
     /// Some image changed in the way whose turn it is.
     fn changed(&mut self) -> Vec<u8> {
         let base = match self.random.below(4) {
-            0 => image(self.places.book()),
+            0 => image(self.book.now()),
             1 => images::elsewhere(&mut self.random),
             _ => self.own(),
         };
