@@ -25,7 +25,7 @@ abbrev pub joined : List (List ℕ) → List ℕ
 joined [] = []
 joined (r ∷ rs) = r ++ joined rs
 
--- MARKS
+-- MARKS (the format's word; elsewhere they are positions)
 
 -- "byte `M`"
 abbrev pub markByte : ℕ

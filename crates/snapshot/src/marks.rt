@@ -1,4 +1,4 @@
-// The record of a rule's marks: byte `M`, the name in eight columns, a space, the digits, spaces, the newline.
+// The record of a rule's marks: byte `M`, the name in eight columns, a space, the digits, spaces, the newline. Mark is the format's word; the state's is position.
 use crate::digits::marks_in;
 use crate::digits::put_digits;
 use columns::blank;
