@@ -19,7 +19,7 @@ use Rattle.book.proofs.WholeSteps.{Same, fresh-same, step-same, Alike, 
 -- SESSIONS
 
 -- from any session that operations have left
-operations-same : (os : List Operation) (s : SessionBook) → Proper s → answers machineOperate (machineOf (s .book)) os ≡ answers bookOperate s os
+pub operations-same : (os : List Operation) (s : SessionBook) → Proper s → answers machineOperate (machineOf (s .book)) os ≡ answers bookOperate s os
 operations-same os s p = answers-alike machineOperate bookOperate Alike operate-alike os (machineOf (s .book)) s (record { proper = p; state = refl })
 
 -- what any operations leave

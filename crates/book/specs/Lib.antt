@@ -11,6 +11,8 @@ pub mod Operations
 pub mod SessionBook
 pub mod KeptRows
 pub mod Accepted
+pub mod Rounds
+pub mod RoundRows
 pub mod Standing
 pub mod Readings
 pub mod Rows
