@@ -16,6 +16,7 @@ use Rattle.book.specs.MachineSteps.{PositionMachine}
 use Rattle.book.specs.Batches.{batchFits}
 use Rattle.book.specs.Images.{inOrder, roleRecord, ruleRecord, marksRecord, imageRecords, imageOf}
 use Rattle.book.specs.Restoring.{restored}
+use Rattle.book.specs.Operations.{kept, keepFits, keptIn}
 use Rattle.book.specs.Rounds.{roomRecords, HostImage, LentBatch, usedRecords, roomFits, rewritten, roundRefused, roundTaken, roundStep}
 use Rattle.book.specs.RoundRows.{Room}
 use Rattle.book.proofs.ImageLists.{order-length}
@@ -86,6 +87,11 @@ pub image-fits : (m : PositionMachine) → Lasting m → length (imageOf m) ≤ 
 image-fits m s = let n = image-length m in let k = image-few m s in omega arith
 
 -- WHAT IS KEPT
+
+-- an image with room is written
+pub kept-with-room : (image lent : List ℕ) → length image ≤ length lent → keptIn image lent ≡ kept 0 (length image / recordSize) (image ++ drop (length image) lent)
+unfolding keptIn keepFits
+kept-with-room image lent h = rw (le-leb (length image) (length lent) h) refl
 
 module _ (h : HostImage) (m : PositionMachine) (s : Lasting m) (r : Room h) where
   -- the buffer is as long as before, and the used number within it

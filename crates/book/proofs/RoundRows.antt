@@ -8,7 +8,6 @@ use mathlib.Core.Option.{Option, none, some}
 use Prim.Native.Nat.{ℕ, _/_, _≤_}
 use native.Mathlib.Omega.{arith}
 use lib.ListN.{length, drop}
-use borrow.Author.Tests.{le-leb}
 use Rattle.common.specs.Limits.{recordSize}
 use Rattle.common.proofs.Bools.{not-true, true-not-false}
 use Rattle.book.specs.Decide.{Answer}
@@ -18,7 +17,7 @@ use Rattle.book.specs.Batches.{BatchOf, batchFits, batchCalls, batchTake
 use Rattle.book.specs.Images.{imageOf}
 use Rattle.book.specs.Restoring.{restored}
 use Rattle.book.specs.Accepted.{Accepted}
-use Rattle.book.specs.Operations.{Operation, Result, answered, kept, replaced, keepFits, keptIn, restoredOr, machineOperate}
+use Rattle.book.specs.Operations.{Operation, Result, answered, kept, replaced, keptIn, restoredOr, machineOperate}
 use Rattle.book.specs.SessionBook.{SessionBook, bookOperate}
 use Rattle.book.specs.Rounds.{HostImage, LentBatch, usedRecords, roomFits, rewritten, roundRefused, roundTaken, roundStep}
 use Rattle.book.specs.RoundRows.{Room, RoundRow, row-13, row-12, row-11, row-taken, roundOperations, OutcomeOf, not-restored, no-batch, all-done}
@@ -27,7 +26,7 @@ use Rattle.book.proofs.Lasting.{Lasting, left-lasting}
 use Rattle.book.proofs.Accepted.{restored-lasting}
 use Rattle.book.proofs.AcceptedLaws.{accepted-exactly, turned-away-exactly}
 use Rattle.book.proofs.Whole.{Proper, operations-same}
-use Rattle.book.proofs.RoundLaws.{room-told, room-fits, by-room, by-image, by-batch, by-taking, image-fits}
+use Rattle.book.proofs.RoundLaws.{room-told, room-fits, by-room, by-image, by-batch, by-taking, image-fits, kept-with-room}
 
 module _ (h : HostImage) (t : LentBatch) where
   -- EXACTLY
@@ -75,11 +74,6 @@ module _ (h : HostImage) (t : LentBatch) where
       let x = batchBy q machineStep m (t .records) (t .replies) in
       restoredOr u o .1 ∷ answered (x .1) ∷ keptIn (imageOf (x .0)) (h .buffer) ∷ []
 
-  -- an image with room is written
-  kept-with-room : (image : List ℕ) → length image ≤ length (h .buffer) → keptIn image (h .buffer) ≡ kept 0 (length image / recordSize) (image ++ drop (length image) (h .buffer))
-  unfolding keptIn keepFits
-  kept-with-room image k = rw (le-leb (length image) (length (h .buffer)) k) refl
-
   outcome : (u : PositionMachine) → Room h → (o : Option PositionMachine) → restored (usedRecords h) ≡ o → (q : Bool) → batchFits (t .records) (t .replies) ≡ q
       → OutcomeOf h t (results u o q) (roundStep h t)
   outcome u r none g q e = subst (OutcomeOf h t (results u none q)) (sym (by-image h t (room-fits h r) g)) (not-restored _ _)
@@ -88,7 +82,7 @@ module _ (h : HostImage) (t : LentBatch) where
       let x = batchTaken machineStep m (batchCalls (t .records) (t .replies)) in
       let l = left-lasting (batchCalls (t .records) (t .replies)) m (restored-lasting (usedRecords h) m g) in
       let k : length (imageOf (x .0)) ≤ length (h .buffer) = omega (arith, image-fits (x .0) l, r .size) in
-      subst (λ (s : Result). OutcomeOf h t (replaced 0 ∷ answered (x .1) ∷ s ∷ []) (roundStep h t)) (sym (kept-with-room (imageOf (x .0)) k))
+      subst (λ (s : Result). OutcomeOf h t (replaced 0 ∷ answered (x .1) ∷ s ∷ []) (roundStep h t)) (sym (kept-with-room (imageOf (x .0)) (h .buffer) k))
       (subst (OutcomeOf h t (replaced 0 ∷ answered (x .1) ∷ kept 0 (rewritten h (x .0) .used) (rewritten h (x .0) .buffer) ∷ [])) (sym (by-taking h t (room-fits h r) m g e)) (all-done _ _ _))
 
   -- "The outcome is that of returning to the image, running the tray and keeping.": in whatever session that is
