@@ -104,9 +104,13 @@ module _ (h : HostImage) (m : PositionMachine) (s : Lasting m) (r : Room h) wher
       let d = length-drop (length (imageOf m)) (h .buffer) in
       record { size = omega arith; within = omega arith }
 
-  -- and the used records say the machine
-  pub rewritten-says : restored (usedRecords (rewritten h m)) ≡ some m
-  rewritten-says =
+  -- the used records are the machine's image
+  pub rewritten-image : usedRecords (rewritten h m) ≡ imageOf m
+  rewritten-image =
       let n = image-length m in
       let q : length (imageOf m) ≡ length (imageOf m) / recordSize * recordSize = omega arith in
-      ap restored (take-at (imageOf m) (drop (length (imageOf m)) (h .buffer)) (length (imageOf m) / recordSize * recordSize) q) ∙ image-restored m s
+      take-at (imageOf m) (drop (length (imageOf m)) (h .buffer)) (length (imageOf m) / recordSize * recordSize) q
+
+  -- and say it
+  pub rewritten-says : restored (usedRecords (rewritten h m)) ≡ some m
+  rewritten-says = ap restored rewritten-image ∙ image-restored m s

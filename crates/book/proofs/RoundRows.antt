@@ -19,14 +19,14 @@ use Rattle.book.specs.Restoring.{restored}
 use Rattle.book.specs.Accepted.{Accepted}
 use Rattle.book.specs.Operations.{Operation, Result, answered, kept, replaced, keptIn, restoredOr, machineOperate}
 use Rattle.book.specs.SessionBook.{SessionBook, bookOperate}
-use Rattle.book.specs.Rounds.{HostImage, LentBatch, usedRecords, roomFits, rewritten, roundRefused, roundTaken, roundStep}
+use Rattle.book.specs.Rounds.{roomRecords, HostImage, LentBatch, usedRecords, roomFits, rewritten, roundRefused, roundTaken, roundStep}
 use Rattle.book.specs.RoundRows.{Room, RoundRow, row-13, row-12, row-11, row-taken, roundOperations, OutcomeOf, not-restored, no-batch, all-done}
 use Rattle.book.proofs.Batches.{fits-exactly}
 use Rattle.book.proofs.Lasting.{Lasting, left-lasting}
 use Rattle.book.proofs.Accepted.{restored-lasting}
 use Rattle.book.proofs.AcceptedLaws.{accepted-exactly, turned-away-exactly}
 use Rattle.book.proofs.Whole.{Proper, operations-same}
-use Rattle.book.proofs.RoundLaws.{room-told, room-fits, by-room, by-image, by-batch, by-taking, image-fits, kept-with-room}
+use Rattle.book.proofs.RoundLaws.{room-told, room-fits, by-room, by-image, by-batch, by-taking, image-fits, kept-with-room, rewritten-room}
 
 module _ (h : HostImage) (t : LentBatch) where
   -- EXACTLY
@@ -64,6 +64,69 @@ module _ (h : HostImage) (t : LentBatch) where
 
   pub round-exactly : (x : HostImage × Answer) → (roundStep h t ≡ x) ↔ RoundRow h t x
   round-exactly x = (λ e. subst (RoundRow h t) e round-row, row-step x)
+
+  -- The number is 13 exactly where the image buffer or the used number does not fit.
+  pub thirteen-exactly : (roundStep h t .1 .number ≡ 13) ↔ (Room h → ⊥)
+  thirteen-exactly = go (roundStep h t) round-row
+    where
+      go : (x : HostImage × Answer) → RoundRow h t x → (x .1 .number ≡ 13) ↔ (Room h → ⊥)
+      go x (row-13 r) = (λ e. r, λ k. refl)
+      go x (row-12 r a) = (λ e. absurd (omega (arith, e)), λ k. absurd (k r))
+      go x (row-11 m r a w) = (λ e. absurd (omega (arith, e)), λ k. absurd (k r))
+      go x (row-taken m n r a w) = (λ e. absurd (omega (arith, e)), λ k. absurd (k r))
+
+  -- It is 12 exactly where they fit and the image is not accepted.
+  pub twelve-exactly : (roundStep h t .1 .number ≡ 12) ↔ (Room h × ((m : PositionMachine) → Accepted (usedRecords h) m → ⊥))
+  twelve-exactly = go (roundStep h t) round-row
+    where
+      go : (x : HostImage × Answer) → RoundRow h t x → (x .1 .number ≡ 12) ↔ (Room h × ((m : PositionMachine) → Accepted (usedRecords h) m → ⊥))
+      go x (row-13 r) = (λ e. absurd (omega (arith, e)), λ k. absurd (r (k .0)))
+      go x (row-12 r a) = (λ e. (r, a), λ k. refl)
+      go x (row-11 m r a w) = (λ e. absurd (omega (arith, e)), λ k. absurd (k .1 m a))
+      go x (row-taken m n r a w) = (λ e. absurd (omega (arith, e)), λ k. absurd (k .1 m a))
+
+  -- It is 11 exactly where the image is accepted and the other two buffers are no batch.
+  pub eleven-exactly : (roundStep h t .1 .number ≡ 11) ↔ (Room h × ((m : PositionMachine) × Accepted (usedRecords h) m) × ((n : ℕ) → BatchOf n (t .records) (t .replies) → ⊥))
+  eleven-exactly = go (roundStep h t) round-row
+    where
+      go : (x : HostImage × Answer) → RoundRow h t x → (x .1 .number ≡ 11) ↔ (Room h × ((m : PositionMachine) × Accepted (usedRecords h) m) × ((n : ℕ) → BatchOf n (t .records) (t .replies) → ⊥))
+      go x (row-13 r) = (λ e. absurd (omega (arith, e)), λ k. absurd (r (k .0)))
+      go x (row-12 r a) = (λ e. absurd (omega (arith, e)), λ k. absurd (a (k .1 .0) (k .1 .1)))
+      go x (row-11 m r a w) = (λ e. (r, (m, a), w), λ k. refl)
+      go x (row-taken m n r a w) = (λ e. absurd (omega (arith, e)), λ k. absurd (k .2 n w))
+
+  -- It is 0 exactly where all fit.
+  pub zero-exactly : (roundStep h t .1 .number ≡ 0) ↔ (Room h × ((m : PositionMachine) × Accepted (usedRecords h) m) × ((n : ℕ) × BatchOf n (t .records) (t .replies)))
+  zero-exactly = go (roundStep h t) round-row
+    where
+      go : (x : HostImage × Answer) → RoundRow h t x → (x .1 .number ≡ 0) ↔ (Room h × ((m : PositionMachine) × Accepted (usedRecords h) m) × ((n : ℕ) × BatchOf n (t .records) (t .replies)))
+      go x (row-13 r) = (λ e. absurd (omega (arith, e)), λ k. absurd (r (k .0)))
+      go x (row-12 r a) = (λ e. absurd (omega (arith, e)), λ k. absurd (a (k .1 .0) (k .1 .1)))
+      go x (row-11 m r a w) = (λ e. absurd (omega (arith, e)), λ k. absurd (w (k .2 .0) (k .2 .1)))
+      go x (row-taken m n r a w) = (λ e. (r, (m, a), (n, w)), λ k. refl)
+
+  -- A number other than 0: what the host holds and the reply buffer are as they were.
+  pub round-steady : (roundStep h t .1 .number ≡ 0 → ⊥) → roundStep h t ≡ roundRefused (roundStep h t .1 .number) h t
+  round-steady = go (roundStep h t) round-row
+    where
+      go : (x : HostImage × Answer) → RoundRow h t x → (x .1 .number ≡ 0 → ⊥) → x ≡ roundRefused (x .1 .number) h t
+      go x (row-13 r) z = refl
+      go x (row-12 r a) z = refl
+      go x (row-11 m r a w) z = refl
+      go x (row-taken m n r a w) z = absurd (z refl)
+
+  -- A used number that is handed back is the one passed, or one within the image buffer.
+  pub used-within : (k : ℕ) → roomRecords ≤ k → h .used ≤ k → roundStep h t .0 .used ≤ k
+  used-within k few passed = go (roundStep h t) round-row
+    where
+      go : (x : HostImage × Answer) → RoundRow h t x → x .0 .used ≤ k
+      go x (row-13 r) = passed
+      go x (row-12 r a) = passed
+      go x (row-11 m r a w) = passed
+      go x (row-taken m n r a w) =
+          let l = restored-lasting (usedRecords h) m (accepted-exactly (usedRecords h) m .1 a) in
+          let u = left machineStep m (batchCalls (t .records) (t .replies)) in
+          omega (arith, few, rewritten-room h u (left-lasting (batchCalls (t .records) (t .replies)) m l) r .within)
 
   -- AS OPERATIONS
 

@@ -14,6 +14,7 @@ use Rattle.book.specs.Book.{Book, freshBook, bookStep}
 use Rattle.book.specs.MachineSteps.{PositionMachine, machineStep, machineOf}
 use Rattle.book.specs.Session.{answers, left}
 use Rattle.book.specs.Batches.{batchFits, batchCalls, buffers, batchBy}
+use Rattle.book.specs.Images.{imageOf}
 use Rattle.book.specs.Restoring.{restored}
 use Rattle.book.specs.Operations.{batch, callsBy}
 use Rattle.book.specs.SessionBook.{bookImage, bookFrom}
@@ -21,10 +22,11 @@ use Rattle.book.specs.Rounds.{roomRecords, HostImage, LentBatch, usedRec
 use Rattle.book.specs.RoundRows.{Room}
 use Rattle.book.proofs.Runs.{answers-alike, left-alike, left-append, answers-append}
 use Rattle.book.proofs.Batches.{batch-leaves, buffers-append}
+use Rattle.book.proofs.Lasting.{Lasting}
 use Rattle.book.proofs.Restored.{image-restored}
 use Rattle.book.proofs.Accepted.{from-same}
 use Rattle.book.proofs.WholeSteps.{Placed, Same, fresh-same, step-same, from-placed}
-use Rattle.book.proofs.RoundLaws.{room-fits, by-batch, by-taking, rewritten-room, rewritten-says}
+use Rattle.book.proofs.RoundLaws.{room-fits, by-batch, by-taking, rewritten-room, rewritten-image, rewritten-says}
 
 -- ONE ROUND
 
@@ -38,17 +40,22 @@ pub record SaysBook (h : HostImage) (b : Book) : Type 0 where
 abbrev pub Agrees : HostImage × Answer → Book × Answer → Type 0
 Agrees x y = (x .1 ≡ y .1) × SaysBook (x .0) (y .0)
 
+-- a book and its machine
+here-same : (b : Book) → Placed b → Same (machineOf b) b
+here-same b p = record { placed = p; state = refl }
+
+-- after some calls
+fed-same : (b : Book) → Placed b → (cs : List Call) → Same (left machineStep (machineOf b) cs) (left bookStep b cs)
+fed-same b p cs = left-alike machineStep bookStep Same step-same cs (machineOf b) b (here-same b p)
+
 pub round-same : (h : HostImage) (b : Book) → SaysBook h b → (t : LentBatch) → Agrees (roundStep h t) (feed b t)
 round-same h b s t = go (batchFits (t .records) (t .replies)) refl
   where
     cs : List Call
     cs = batchCalls (t .records) (t .replies)
 
-    here : Same (machineOf b) b
-    here = record { placed = s .placed; state = refl }
-
     after : Same (left machineStep (machineOf b) cs) (left bookStep b cs)
-    after = left-alike machineStep bookStep Same step-same cs (machineOf b) b here
+    after = fed-same b (s .placed) cs
 
     kept : SaysBook (rewritten h (left machineStep (machineOf b) cs)) (left bookStep b cs)
     kept =
@@ -62,7 +69,7 @@ round-same h b s t = go (batchFits (t .records) (t .replies)) refl
     go : (q : Bool) → batchFits (t .records) (t .replies) ≡ q → Agrees (roundStep h t) (batchBy q bookStep b (t .records) (t .replies))
     go true e =
         subst (λ (x : HostImage × Answer). Agrees x (batchBy true bookStep b (t .records) (t .replies))) (sym (by-taking h t (room-fits h (s .room)) (machineOf b) (s .image) e))
-        (ap (λ (xs : List Answer). record { number = 0; buffer = buffers xs }) (answers-alike machineStep bookStep Same step-same cs (machineOf b) b here), kept)
+        (ap (λ (xs : List Answer). record { number = 0; buffer = buffers xs }) (answers-alike machineStep bookStep Same step-same cs (machineOf b) b (here-same b (s .placed))), kept)
     go false e =
         subst (λ (x : HostImage × Answer). Agrees x (b, record { number = 11; buffer = t .replies })) (sym (by-batch h t (room-fits h (s .room)) (machineOf b) (s .image) e)) (refl, s)
 
@@ -75,6 +82,25 @@ rounds-are-feeding = answers-alike roundStep feed SaysBook round-same
 -- and what the host holds at the end says the book at the end
 pub rounds-say : (ts : List LentBatch) (h : HostImage) (b : Book) → SaysBook h b → SaysBook (left roundStep h ts) (left feed b ts)
 rounds-say = left-alike roundStep feed SaysBook round-same
+
+-- where its used records are the image of the book, they stay so: "the image is rewritten for the monitor afterwards"
+round-writes : (h : HostImage) (b : Book) → SaysBook h b → usedRecords h ≡ bookImage b → (t : LentBatch) → usedRecords (roundStep h t .0) ≡ bookImage (feed b t .0)
+round-writes h b s k t = go (batchFits (t .records) (t .replies)) refl
+  where
+    after : Same (left machineStep (machineOf b) (batchCalls (t .records) (t .replies))) (left bookStep b (batchCalls (t .records) (t .replies)))
+    after = fed-same b (s .placed) (batchCalls (t .records) (t .replies))
+
+    go : (q : Bool) → batchFits (t .records) (t .replies) ≡ q → usedRecords (roundStep h t .0) ≡ bookImage (batchBy q bookStep b (t .records) (t .replies) .0)
+    go true e =
+        let u = left machineStep (machineOf b) (batchCalls (t .records) (t .replies)) in
+        ap (λ (x : HostImage × Answer). usedRecords (x .0)) (by-taking h t (room-fits h (s .room)) (machineOf b) (s .image) e)
+        ∙ rewritten-image h u (subst Lasting (sym (after .state)) (after .placed .lasting)) (s .room)
+        ∙ ap imageOf (after .state)
+    go false e = ap (λ (x : HostImage × Answer). usedRecords (x .0)) (by-batch h t (room-fits h (s .room)) (machineOf b) (s .image) e) ∙ k
+
+pub rounds-write : (ts : List LentBatch) (h : HostImage) (b : Book) → SaysBook h b → usedRecords h ≡ bookImage b → usedRecords (left roundStep h ts) ≡ bookImage (left feed b ts)
+rounds-write [] h b s k = k
+rounds-write (t ∷ ts) h b s k = rounds-write ts (roundStep h t .0) (feed b t .0) (round-same h b s t .1) (round-writes h b s k t)
 
 -- WHAT A HOST MAY BEGIN WITH
 

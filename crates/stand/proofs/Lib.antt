@@ -4,4 +4,5 @@ pub mod RunLaws
 pub mod KindLaws
 pub mod SheetLaws
 pub mod HandedOver
+pub mod HostSessions
 pub mod Demands

@@ -1,4 +1,5 @@
 pub mod Operations
 pub mod Calls
 pub mod Kinds
+pub mod Rounds
 pub mod Sheets

@@ -16,6 +16,7 @@ use Rattle.intake.specs.Represents.{Represents}
 use Rattle.judge.specs.Judge.{numberOf, judgeOf}
 use Rattle.judge.specs.declared.answers.Verdict.{Verdict}
 use Rattle.judge.specs.declared.answers.Verdict.the-variants.{Yes, No, NoRule, NotWhole, Malformed, NotInLanguage, Unknown}
+use Rattle.stand.specs.Rounds.{shift}
 
 -- a record handed over with a buffer of 50 bytes, whose reply is dropped
 abbrev pub callOf : List ℕ → Call
@@ -29,15 +30,15 @@ bookOf s = left bookStep freshBook (map callOf (recordsOf (length s / recordSize
 abbrev pub answerNumber : Verdict → ℕ
 answerNumber Yes = 1
 answerNumber No = 0
-answerNumber NoRule = numberOf NoRule * 4294967296
-answerNumber NotWhole = numberOf NotWhole * 4294967296
-answerNumber Malformed = numberOf Malformed * 4294967296
-answerNumber NotInLanguage = numberOf NotInLanguage * 4294967296
-answerNumber Unknown = numberOf Unknown * 4294967296
+answerNumber NoRule = numberOf NoRule * shift
+answerNumber NotWhole = numberOf NotWhole * shift
+answerNumber Malformed = numberOf Malformed * shift
+answerNumber NotInLanguage = numberOf NotInLanguage * shift
+answerNumber Unknown = numberOf Unknown * shift
 
 -- the judge's answer of the rules that the sheet leaves; 11 where the sheet is not whole records
 unfoldable pub sheetJudged : List ℕ → ℕ → List ℕ → ℕ
-sheetJudged sheet i s = cond (eqb (length sheet % recordSize) 0) (answerNumber (judgeOf (machineOf (bookOf sheet)) i s)) (11 * 4294967296)
+sheetJudged sheet i s = cond (eqb (length sheet % recordSize) 0) (answerNumber (judgeOf (machineOf (bookOf sheet)) i s)) (11 * shift)
 
 -- the monitor after a record
 pub record RecordLeaves (f : State) (s : List ℕ) (r : State) : Type 0 where

@@ -1,12 +1,10 @@
 // What the judge over a sheet needs: the monitor that the sheet leaves, and an answer as a number.
+use crate::sizes::SHIFT;
 use follow::State;
 use judge::Verdict;
 use monitor::handle;
 ghost use mathlib.Core.Path.{_≡_};
 ghost use Rattle.stand.specs.Sheets.{answerNumber, RecordLeaves, SheetLeaves};
-
-// One past 32 bits: what a refusal's number is multiplied by.
-pub const SHIFT: u64 = 4294967296;
 
 // The monitor after a record, its reply dropped.
 fn after_record(monitor: State, bytes: &[u8]) -> State

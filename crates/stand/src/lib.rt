@@ -1,22 +1,35 @@
 // The library for other languages: calls over byte buffers and numbers. A slice passes as a pointer and a length.
 //
-// Every call takes any bytes of any length. Where sizes do not fit it answers 11 and writes nothing.
+// Every call takes any bytes of any length and keeps nothing between calls. Where sizes do not fit it says so by its number and writes nothing.
 mod judging;
 mod operations;
 mod sessions;
 mod sizes;
 
 use judge::judge;
-use judging::SHIFT;
 use judging::after;
 use judging::number_of;
 use operations::all_known;
+use round::run_round;
 use sessions::run;
+use sizes::SHIFT;
 use sizes::all_fit;
 ghost use mathlib.Core.Path.{_≡_};
 ghost use Rattle.stand.specs.Calls.{SessionRun};
 ghost use Rattle.stand.specs.Kinds.{OperationsRun};
+ghost use Rattle.stand.specs.Rounds.{StandRuns};
 ghost use Rattle.stand.specs.Sheets.{sheetJudged};
+
+// A batch on the monitor that a host holds as an image: the first `used` records of the image buffer are restored, the batch is run, and the image buffer is rewritten; its bytes
+// past the new image stay. Answers the refusal's number times 4,294,967,296 plus the used number: 0 and the new one; or 13, 12 or 11, looked at in this order, with all buffers
+// as lent and `used` as it was passed.
+#[no_mangle]
+pub extern "C" fn stand_run(image: &mut [u8], used: u32, records: &[u8], replies: &mut [u8]) -> u64
+    ensures { λ r. ⌜ StandRuns (now (image .entry)) used (now (records .entry)) (now (replies .entry)) (now (image .exit)) (now (replies .exit)) r ⌝ }
+{
+    let end = run_round(image, used, records, replies);
+    end.number as u64 * SHIFT + end.used as u64
+}
 
 // A whole session from a fresh monitor. Call k has the next lengths[k] bytes of `records` as its record and the next sizes[k] bytes of `replies` as its
 // reply buffer; its number goes to numbers[k]. Answers 0; or 11, where the counts differ or the sizes do not add up to the buffers.

@@ -3,6 +3,9 @@ ghost use mathlib.Core.Path.{_≡_};
 ghost use lib.Dec.{eqb};
 ghost use Rattle.stand.specs.Calls.{total, allFit};
 
+// One past 32 bits: what a refusal's number is multiplied by, where a call hands back two numbers in one.
+pub const SHIFT: u64 = 4294967296;
+
 // A 32-bit size as a length.
 pub fn as_length(n: u32) -> usize
     ensures { λ r. ⌜ r ≡ n ⌝ }
