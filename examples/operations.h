@@ -1,22 +1,6 @@
-/* What the examples share: a session put together operation by operation and run by the library, the bytes of a file, and stopping with words.
- * PROGRAM is the program's name. */
-#include "../include/stand.h"
-#include <stdarg.h>
-#include <stdio.h>
-#include <stdlib.h>
+/* What the examples over stand_operations share: a session put together operation by operation and run by the library, and the bytes of a file. */
+#include "shared.h"
 #include <string.h>
-
-enum { RECORD = 128, REPLY = 50 };
-
-static void stop(const char *format, ...) {
-    va_list words;
-    va_start(words, format);
-    fprintf(stderr, "%s: ", PROGRAM);
-    vfprintf(stderr, format, words);
-    fprintf(stderr, "\n");
-    va_end(words);
-    exit(1);
-}
 
 static void *room(void *had, size_t count, size_t each) {
     void *got = count <= SIZE_MAX / each ? realloc(had, count * each) : NULL;

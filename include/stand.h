@@ -12,6 +12,24 @@
 extern "C" {
 #endif
 
+/* An image is the monitor written out in records of 128 bytes: the role lines in declared order without top, the rule lines in declared order, then for each
+ * rule a record of its marks. It has at most 63 + 32 + 32 records; so a buffer of this many bytes is never too short to keep into. */
+enum { STAND_IMAGE_MOST = 16256 };
+
+/* The call for a host that knows only numbers and byte buffers. It lends an image, a batch of records and a buffer for the replies; the image is rewritten for
+ * the monitor afterwards. What comes out is what restoring the first `used` records of `image`, running the batch and keeping into `image` would give: the
+ * reply to record k stands in the 50 bytes of `replies` from 50 * k, the records of the new image stand at the front of `image`, and the image bytes past them
+ * stay as they were. A session begins with used 0 and any bytes in `image`; each later call passes the image and the used number that the one before left.
+ * The number is 0, whatever the replies say, and the used number is that of the new image. Or the call is refused: the three buffers stay as lent, the used
+ * number is handed back as it was passed, and the number is the first of these that applies:
+ *   13  image_len is not STAND_IMAGE_MOST, or used is above 127, the records that it has room for;
+ *   12  the used records are no image that is accepted, for the reasons that STAND_RESTORE gives below;
+ *   11  the record bytes are not whole records, are over 512 of them, or the reply bytes are not 50 for each. */
+/* (number << 32) + used */
+uint64_t stand_run(uint8_t *image, size_t image_len, uint32_t used,
+                   const uint8_t *records, size_t records_len,
+                   uint8_t *replies, size_t replies_len);
+
 /* A whole session from a fresh monitor. Call k has the next lengths[k] bytes of `records` as its record and the next sizes[k] bytes of `replies` as its
  * reply buffer; its number (0 when taken, else the refusal's) goes to numbers[k].
  * Returns 0; or 11, with nothing written, where the three counts differ, or the lengths do not add up to records_len, or the sizes to replies_len. */
@@ -23,10 +41,6 @@ uint32_t stand_session(const uint8_t *records, size_t records_len,
 
 /* The kinds of operations. */
 enum { STAND_CALL = 0, STAND_BATCH = 1, STAND_KEEP = 2, STAND_RESTORE = 3 };
-
-/* An image is the monitor written out in records of 128 bytes: the role lines in declared order without top, the rule lines in declared order, then for each
- * rule a record of its marks. It has at most 63 + 32 + 32 records; so a buffer of this many bytes is never too short to keep into. */
-enum { STAND_IMAGE_MOST = 16256 };
 
 /* A session of operations from a fresh monitor, each on the monitor that the one before left. Operation k has the next lengths[k] bytes of `records` and
  * the next sizes[k] bytes of `replies`; its number goes to numbers[k], and how many records keeping wrote to counts[k] (0 for the other kinds and for keeping

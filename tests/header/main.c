@@ -1,5 +1,5 @@
-/* The C header against the library: the session that document 01 prints, by single calls and in a batch, the judge over its sheet, images of that session kept
- * and restored, and sizes that do not fit.
+/* The C header against the library: the session that document 01 prints, by single calls, in a batch and in rounds with an image between them, the judge over
+ * its sheet, images of that session kept and restored, and sizes that do not fit. This file is C and C++ at once, as the header is.
  * usage: header SESSION.rec REPLIES   (the records, and the replies that they must get) */
 #include "../../include/stand.h"
 #include <stdio.h>
@@ -39,7 +39,7 @@ static void lend(void) {
 
 /* Whether these bytes are as lent. */
 static int as_lent(const void *at, size_t len) {
-    const uint8_t *bytes = at;
+    const uint8_t *bytes = (const uint8_t *)at;
     for (size_t i = 0; i < len; i++)
         if (bytes[i] != '?') return 0;
     return 1;
@@ -204,13 +204,136 @@ static int images(void) {
     return 0;
 }
 
+/* What stand_run is lent: a byte more than the image that it takes, and a record and a reply more than the batch. */
+enum { BATCH = 512 };
+static uint8_t image[STAND_IMAGE_MOST + 1], acts[(BATCH + 1) * RECORD], answers[(BATCH + 1) * REPLY];
+
+/* Whether the image is what keeping writes after the first n records, and of `used` records; past them it must be '?', as lent. */
+static int is_image_after(size_t n, uint32_t used) {
+    static uint8_t kept[MOST * REPLY + STAND_IMAGE_MOST];
+    const uint8_t kinds[] = {STAND_BATCH, STAND_KEEP};
+    const uint32_t taken_by[] = {(uint32_t)(n * RECORD), 0}, lent_to[] = {(uint32_t)(n * REPLY), STAND_IMAGE_MOST};
+    memset(kept, '?', sizeof kept);
+    stand_operations(kinds, 2, records, n * RECORD, taken_by, 2, kept, n * REPLY + STAND_IMAGE_MOST, lent_to, 2, numbers, 2, counts, 2);
+    return counts[1] == used && memcmp(image, kept + n * REPLY, STAND_IMAGE_MOST) == 0;
+}
+
+/* The n records in rounds of so many, with nothing but the image and its used number from one call to the next. */
+static int rounds(size_t n, size_t round) {
+    uint32_t used = 0;
+    memset(image, '?', sizeof image);
+    memset(answers, '?', sizeof answers);
+    for (size_t at = 0, m; at < n; at += m) {
+        m = n - at < round ? n - at : round;
+        uint64_t answer = stand_run(image, STAND_IMAGE_MOST, used, records + at * RECORD, m * RECORD, answers + at * REPLY, m * REPLY);
+        if (answer >> 32 != 0) return fails("each round is taken");
+        used = (uint32_t)answer;
+        if (!is_image_after(at + m, used)) return fails("each round leaves the image that keeping writes, and the rest as lent");
+    }
+    if (memcmp(answers, stored, n * REPLY) != 0) return fails("the replies of the rounds are those stored");
+    if (!as_lent(answers + n * REPLY, sizeof answers - n * REPLY)) return fails("nothing is written past the replies of the rounds");
+    return 0;
+}
+
+/* Lends the image, the first n records of `acts` and room for their replies; the call must be taken and hand back this used number. */
+static int taken(uint32_t used, size_t n, uint32_t used_after) {
+    memset(answers, '?', sizeof answers);
+    return stand_run(image, STAND_IMAGE_MOST, used, acts, n * RECORD, answers, n * REPLY) == used_after;
+}
+
+/* Whether the first n replies are this text, and the rest is as lent. */
+static int answer_all(size_t n, const char *text) {
+    uint8_t reply[REPLY];
+    pad(reply, REPLY, text);
+    for (size_t k = 0; k < n; k++)
+        if (memcmp(answers + k * REPLY, reply, REPLY) != 0) return 0;
+    return as_lent(answers + n * REPLY, sizeof answers - n * REPLY);
+}
+
+/* Images that no call wrote, before other records that are not used. */
+static int given_images(void) {
+    static uint8_t expected[sizeof image];
+    memset(expected, '!', sizeof expected);
+    image_after_uv(expected);
+    memcpy(image, expected, sizeof image);
+    pad(acts, RECORD, "Euv");
+    if (!taken(0, 1, 0) || !answer_all(1, "R 06 -")) return fails("with used 0 the session begins afresh, whatever stands in the image");
+    if (memcmp(image, expected, sizeof image) != 0) return fails("an image of no records leaves every byte");
+    pad(image, RECORD, "L  role lamp  under top");
+    if (!taken(5, 0, 5) || !answer_all(0, "")) return fails("a batch of no records is taken");
+    if (memcmp(image, expected, sizeof image) != 0) return fails("lines are kept with single spaces, and the rest as lent");
+    for (size_t k = 0; k < BATCH; k++) pad(acts + k * RECORD, RECORD, "Eexpose");
+    if (!taken(5, BATCH, 5) || !answer_all(BATCH, "H 01 a")) return fails("512 records are taken, and the marks hold each of them");
+    if (memcmp(image, expected, sizeof image) != 0) return fails("held acts leave the image");
+    return 0;
+}
+
+/* The fullest monitor: its image fills the buffer. */
+static int full_image(void) {
+    static uint8_t before[sizeof image];
+    char text[RECORD];
+    for (int k = 0; k < 63; k++) sprintf(text, "Lrole r%d under top", k), pad(acts + k * RECORD, RECORD, text);
+    for (int k = 0; k < 32; k++) sprintf(text, "Lrule a%d:any*<r%d>;any;pass", k, k), pad(acts + (63 + k) * RECORD, RECORD, text);
+    memset(image, '?', sizeof image);
+    if (!taken(0, 63 + 32, 127) || image[STAND_IMAGE_MOST] != '?') return fails("63 roles and 32 rules make 127 records");
+    memcpy(before, image, sizeof image);
+    pad(acts, RECORD, "Lrole more under top");
+    if (!taken(127, 1, 127) || !answer_all(1, "R 08 -")) return fails("an image of 127 records is taken, and the table is full");
+    if (memcmp(image, before, sizeof image) != 0) return fails("a record that is refused leaves the image");
+    pad(acts, RECORD, "Er31");
+    if (!taken(127, 1, 127) || !answer_all(1, "C 00 -        r31")) return fails("an act is committed over 127 records");
+    if (memcmp(image, before, sizeof image) == 0) return fails("an act moves the marks");
+    return 0;
+}
+
+/* Whether the call is refused by this number, with the used number as passed and every byte as it was. */
+static int refuses(uint32_t number, size_t image_len, uint32_t used, size_t records_len, size_t replies_len) {
+    static uint8_t image_was[sizeof image], acts_were[sizeof acts];
+    memcpy(image_was, image, sizeof image);
+    memcpy(acts_were, acts, sizeof acts);
+    memset(answers, '?', sizeof answers);
+    uint64_t answer = stand_run(image, image_len, used, acts, records_len, answers, replies_len);
+    return answer == ((uint64_t)number << 32) + used && memcmp(image, image_was, sizeof image) == 0 &&
+           memcmp(acts, acts_were, sizeof acts) == 0 && as_lent(answers, sizeof answers);
+}
+
+/* Over an image of five records with others past them: used 5 is accepted; 4 leaves out the record of marks, 6 takes one too many. The batch begins with a line
+ * that a fresh monitor takes, so that a run after a refusal would leave another image. */
+static int refusals(void) {
+    enum { SIZE = STAND_IMAGE_MOST, REC = RECORD, REP = REPLY };
+    for (size_t k = 0; k < BATCH + 1; k++) pad(acts + k * RECORD, RECORD, "Euv");
+    pad(acts, RECORD, "Lrole dark under top");
+    memcpy(image, acts, sizeof image);
+    image_after_uv(image);
+    if (!refuses(13, SIZE - 1, 5, REC, REP) || !refuses(13, SIZE + 1, 5, REC, REP) || !refuses(13, 5 * REC, 5, REC, REP) || !refuses(13, 0, 0, 0, 0))
+        return fails("an image buffer of another size is 13, and all is as lent");
+    if (!refuses(13, SIZE, 128, REC, REP) || !refuses(13, SIZE, UINT32_MAX, REC, REP) || !refuses(13, SIZE, 1u << 25, REC, REP))
+        return fails("a used number above 127 is 13, and all is as lent");
+    if (!refuses(12, SIZE, 4, REC, REP) || !refuses(12, SIZE, 6, REC, REP) || !refuses(12, SIZE, 127, REC, REP) || !refuses(12, SIZE, 4, 0, 0))
+        return fails("an image that is not accepted is 12, and all is as lent");
+    if (!refuses(11, SIZE, 5, REC - 1, REP) || !refuses(11, SIZE, 5, REC + 1, REP) || !refuses(11, SIZE, 0, 1, 0) ||
+        !refuses(11, SIZE, 5, (BATCH + 1) * REC, (BATCH + 1) * REP))
+        return fails("records that are not whole, or over 512, are 11, and all is as lent");
+    if (!refuses(11, SIZE, 5, REC, REP - 1) || !refuses(11, SIZE, 5, REC, REP + 1) || !refuses(11, SIZE, 0, REC, 0) || !refuses(11, SIZE, 5, 0, REP))
+        return fails("replies of another size are 11, and all is as lent");
+    if (!refuses(13, SIZE - 1, 4, REC - 1, REP) || !refuses(13, SIZE, 128, REC - 1, REP) || !refuses(13, SIZE + 1, 5, REC, REP + 1))
+        return fails("13 is looked at before 12 and 11");
+    if (!refuses(12, SIZE, 4, REC - 1, REP) || !refuses(12, SIZE, 6, REC, REP + 1) || !refuses(12, SIZE, 4, (BATCH + 1) * REC, (BATCH + 1) * REP))
+        return fails("12 is looked at before 11");
+    if (!taken(5, 1, 6) || !answer_all(1, "D 00 dark")) return fails("after all refusals the image is taken");
+    return 0;
+}
+
 int main(int argc, char **argv) {
     if (argc != 3) return fails("give the records and the replies");
     size_t n = read_file(argv[1], records, sizeof records) / RECORD;
     size_t m = read_file(argv[2], stored, sizeof stored) / REPLY;
     if (n == 0 || n != m) return fails("as many replies as records, please");
     if (session(n) || batch(n) || judge(n) || images()) return 1;
-    printf("header: %zu replies by single calls and in a batch, 5 questions to the judge, images kept and restored in %zu operations, no difference\n",
-           n, list.count);
+    for (size_t round = 1; round <= n; round++)
+        if (rounds(n, round)) return 1;
+    if (given_images() || full_image() || refusals()) return 1;
+    printf("header: %zu replies by single calls, in a batch and in rounds, 5 questions to the judge, images kept and restored in %zu operations and by "
+           "stand_run, no difference\n", n, list.count);
     return 0;
 }
