@@ -5,12 +5,17 @@
 -- `handle` promises of the call c on m, of its answer a and of the monitor m′ that it hands back; `BatchedAs`, `KeptAs` and `RestoredBy` are what `handle_batch`, `keep` and
 -- `restore` promise. The functions are proved for any monitor, any records and any buffer, with no `requires`: they return, stay inside their buffers, and what they hand back
 -- has that promise.
+--
+-- A host in another language holds no monitor but its image (C-13). `HostCalls h t a h′` is what `stand_run` promises of a call with the image buffer and the used number h
+-- and the batch t: of the answer a, the number and the reply buffer, and of h′, what the host holds afterwards. `HostSession h ts xs h′` is such calls in turn, each with what
+-- the one before left.
 -- Assumes nothing.
-use mathlib.Core.Path.{_≡_, subst}
+use mathlib.Core.Path.{_≡_, refl, sym, ap, _∙_, subst}
 use mathlib.Core.Bool.{true}
 use mathlib.Core.List.{List, _∷_, _++_}
 use mathlib.Core.Logic.{_↔_}
 use Prim.Native.Nat.{ℕ, _*_, _≤_, _<_}
+use native.Mathlib.Omega.{arith}
 use lib.ListN.{length, take, drop}
 use Rattle.common.specs.All.{All}
 use Rattle.common.specs.Limits.{replySize, recordSize}
@@ -34,15 +39,21 @@ use Rattle.book.specs.Working.{WorkEnds}
 use Rattle.book.specs.Session.{answers, left, Run}
 use Rattle.book.specs.Batches.{BatchOf, callsIn, buffers}
 use Rattle.book.specs.Operations.{Operation, restore, Result, kept, replaced, callsMade}
-use Rattle.book.specs.SessionBook.{SessionBook, freshSession, bookImage, bookOperate}
+use Rattle.book.specs.SessionBook.{SessionBook, freshSession, bookImage, bookFrom, bookOperate}
 use Rattle.book.specs.Accepted.{Accepted}
 use Rattle.book.specs.KeptRows.{KeptRow}
+use Rattle.book.specs.Rounds.{roomRecords, HostImage, LentBatch, usedRecords, roundStep, feed, callsInRow, repliesTaken}
+use Rattle.book.specs.RoundRows.{Room, RoundRow, roundOperations, OutcomeOf}
 use Rattle.book.specs.Standing.{Unrestored, Story, Stands}
 use Rattle.book.specs.Readings.{Does}
 use Rattle.book.proofs.Whole.{operations-proper, image-determines, restore-goes-on}
 use Rattle.book.proofs.Standing.{book-story, events-stand, operations-as-calls}
 use Rattle.book.proofs.Readings.{any-reading}
 use Rattle.book.proofs.Batches.{own-place}
+use Rattle.book.proofs.AcceptedLaws.{accepted-exactly}
+use Rattle.book.proofs.RoundLaws.{image-fits}
+use Rattle.book.proofs.RoundRows as rows
+use Rattle.book.proofs.Rounds.{fresh-says, image-says, given-says, rounds-write, feeding-in-row, replies-in-row}
 use Rattle.monitor.specs.Handled.{Refused}
 use Rattle.monitor.specs.Sessions.{Begun, HandledAs, Session}
 use Rattle.monitor.specs.Marks.{MarksIn}
@@ -59,9 +70,11 @@ use Rattle.judge.specs.declared.answers.Verdict.{Verdict}
 use Rattle.judge.proofs.Exactly.{book-judged}
 use Rattle.stand.specs.Operations.{OperatedAs, Operated, LeftBy, Ran}
 use Rattle.stand.specs.Kinds.{OperationsRun}
+use Rattle.stand.specs.Rounds.{shift, HostCalls, HostSession}
 use Rattle.stand.proofs.WholeSession as whole
 use Rattle.stand.proofs.WholeSession.{left-keeps}
 use Rattle.stand.proofs.HandedOver.{HandedOver, handed-over}
+use Rattle.stand.proofs.HostSessions.{call-is-round, calls-leave, calls-made, calls-are-book}
 
 -- the plain book of a session after the operations: with the images kept so far, and the book itself
 abbrev pub session : List Operation → SessionBook
@@ -123,6 +136,51 @@ restore-refusal-changes-nothing = snapshots.restore-turns-away
 pub restore-replaces : (m m′ : State) (image : List ℕ) (n : ℕ) → RestoredBy m image n m′ → (t : PositionMachine) → Accepted image t → (n ≡ 0) × Represents m′ t
 restore-replaces = snapshots.restore-accepts
 
+-- C-13. "An image buffer of another size, or a used number above its records, is 13 and is looked at first; then come 12 and 11.": of a host that holds any image buffer and any
+-- used number of 32 bits, what comes of a call is what the first of these rows says that applies, and nothing else.
+pub run-by-row : (h h′ : HostImage) (t : LentBatch) (a : Answer) → h .used < shift → HostCalls h t a h′ → (x : HostImage × Answer) → (_≡_ {A = HostImage × Answer} (h′, a) x) ↔ RoundRow h t x
+run-by-row h h′ t a small c x =
+    let e = call-is-round h t small a h′ c in
+    let k = rows.round-exactly h t x in
+    (λ q. k .0 (sym e ∙ q), λ r. e ∙ k .1 r)
+
+-- so the number is 13 exactly where the image buffer is not of 127 records or the used number is above them;
+pub run-refused-by-room : (h h′ : HostImage) (t : LentBatch) (a : Answer) → h .used < shift → HostCalls h t a h′ → (a .number ≡ 13) ↔ (Room h → ⊥)
+run-refused-by-room h h′ t a small c =
+    subst (λ (x : HostImage × Answer). (x .1 .number ≡ 13) ↔ (Room h → ⊥)) (sym (call-is-round h t small a h′ c)) (rows.thirteen-exactly h t)
+
+-- 12 exactly where these fit and the used records are no image that is accepted;
+pub run-refused-by-image : (h h′ : HostImage) (t : LentBatch) (a : Answer) → h .used < shift → HostCalls h t a h′
+    → (a .number ≡ 12) ↔ (Room h × ((m : PositionMachine) → Accepted (usedRecords h) m → ⊥))
+run-refused-by-image h h′ t a small c =
+    subst (λ (x : HostImage × Answer). (x .1 .number ≡ 12) ↔ (Room h × ((m : PositionMachine) → Accepted (usedRecords h) m → ⊥))) (sym (call-is-round h t small a h′ c)) (rows.twelve-exactly h t)
+
+-- 11 exactly where the image is accepted and the other two buffers are those of no batch;
+pub run-refused-by-batch : (h h′ : HostImage) (t : LentBatch) (a : Answer) → h .used < shift → HostCalls h t a h′
+    → (a .number ≡ 11) ↔ (Room h × ((m : PositionMachine) × Accepted (usedRecords h) m) × ((n : ℕ) → BatchOf n (t .records) (t .replies) → ⊥))
+run-refused-by-batch h h′ t a small c =
+    subst (λ (x : HostImage × Answer). (x .1 .number ≡ 11) ↔ (Room h × ((m : PositionMachine) × Accepted (usedRecords h) m) × ((n : ℕ) → BatchOf n (t .records) (t .replies) → ⊥)))
+    (sym (call-is-round h t small a h′ c)) (rows.eleven-exactly h t)
+
+-- and 0 exactly where all fit: keeping is never refused.
+pub run-taken-by-all : (h h′ : HostImage) (t : LentBatch) (a : Answer) → h .used < shift → HostCalls h t a h′
+    → (a .number ≡ 0) ↔ (Room h × ((m : PositionMachine) × Accepted (usedRecords h) m) × ((n : ℕ) × BatchOf n (t .records) (t .replies)))
+run-taken-by-all h h′ t a small c =
+    subst (λ (x : HostImage × Answer). (x .1 .number ≡ 0) ↔ (Room h × ((m : PositionMachine) × Accepted (usedRecords h) m) × ((n : ℕ) × BatchOf n (t .records) (t .replies))))
+    (sym (call-is-round h t small a h′ c)) (rows.zero-exactly h t)
+
+-- "Each of these three leaves all three buffers as lent and hands back the used number as it was passed.": what the host holds is the same, and so is the reply buffer. (The
+-- records are lent to be read only.)
+pub run-refusal-changes-nothing : (h h′ : HostImage) (t : LentBatch) (a : Answer) → h .used < shift → HostCalls h t a h′ → (a .number ≡ 0 → ⊥) → (h′ ≡ h) × (a .buffer ≡ t .replies)
+run-refusal-changes-nothing h h′ t a small c z =
+    let e = call-is-round h t small a h′ c in
+    let k = rows.round-steady h t (λ q. z (ap (λ (x : HostImage × Answer). x .1 .number) e ∙ q)) in
+    (ap (λ (x : HostImage × Answer). x .0) (e ∙ k), ap (λ (x : HostImage × Answer). x .1 .buffer) (e ∙ k))
+
+-- The book's image always has room: 63 roles after top and two records for each of 32 rules.
+pub book-image-has-room : (os : List Operation) → length (bookImage (book os)) ≤ roomRecords * recordSize
+book-image-has-room os = image-fits (machineOf (book os)) (operations-proper os .now .lasting)
+
 -- A run exists for every list of operations: there are buffers that hold just these, and whatever `stand_operations` leaves of them (it is proved for any buffers, with
 -- no `requires`, so it returns) shows a run of the operations on a fresh monitor, with the book's results.
 pub every-list-handed-over : (os : List Operation) → HandedOver os
@@ -132,6 +190,10 @@ pub every-list-runs : (os : List Operation) (h : HandedOver os) (left told count
     → OperationsRun (h .kinds) (h .records) (h .lengths) (h .sizes) (h .replies) left (h .numbers) told (h .counts) counted r → (r ≡ 0) × Ran os (answers bookOperate freshSession os)
 every-list-runs os h left told counted r s =
     let t = s .taken (h .fit) in (t .0, subst (λ (l : List Operation). Ran l (answers bookOperate freshSession l)) (h .operations) (t .1 .ran))
+
+-- And for every list of batches that a host hands over, whatever it holds.
+pub every-host-runs : (h : HostImage) (ts : List LentBatch) → h .used < shift → (xs : List Answer) × (h′ : HostImage) × HostSession h ts xs h′
+every-host-runs h ts small = (answers roundStep h ts, left roundStep h ts, calls-made ts h small)
 
 -- DEMAND 2. "A line is taken exactly when the rule language, the name checks and the limits allow it, and it has a single reading. A past matches a list of acts exactly
 -- when Appendix A .. says so. A chain is worked by that paper's steps, last declared first, and ends committed, held, unfit, or too long only when a 65th response would be
@@ -219,6 +281,45 @@ image-decides os ps = image-determines (session os) (session ps) (operations-pro
 -- and whichever way C-12 is read where it leaves that open, the results are these
 pub readings-alike : (os : List Operation) (rs : List Result) (s : SessionBook) → Run Does freshSession os rs s → rs ≡ answers bookOperate freshSession os
 readings-alike = any-reading
+
+-- C-13, demand 3 as a host sees it that holds nothing but the image, in a session of any length: for every list of batches handed over one by one, beginning with used 0 and any
+-- bytes in an image buffer of 127 records, each call with the image and the used number that the one before left, every call's number and reply buffer are those of the plain
+-- book that is fed with the batches: a batch taken is its records one by one, a batch refused by 11 changes nothing.
+pub host-is-book : (bytes : List ℕ) (h′ : HostImage) (ts : List LentBatch) (xs : List Answer) → length bytes ≡ roomRecords * recordSize
+    → HostSession (record { buffer = bytes; used = 0 }) ts xs h′ → xs ≡ answers feed freshBook ts
+host-is-book bytes h′ ts xs n run = calls-are-book (record { buffer = bytes; used = 0 }) h′ freshBook ts xs (fresh-says bytes n) run
+
+-- That is: the replies of all batches taken, one after the other, are those of single calls with all their records in a row; and the book left is the one that these calls leave.
+pub host-replies-in-a-row : (bytes : List ℕ) (h′ : HostImage) (ts : List LentBatch) (xs : List Answer) → length bytes ≡ roomRecords * recordSize
+    → HostSession (record { buffer = bytes; used = 0 }) ts xs h′ → repliesTaken xs ≡ buffers (answers bookStep freshBook (callsInRow ts))
+host-replies-in-a-row bytes h′ ts xs n run = ap repliesTaken (host-is-book bytes h′ ts xs n run) ∙ replies-in-row ts freshBook
+
+pub batches-in-a-row : (b : Book) (ts : List LentBatch) → left feed b ts ≡ left bookStep b (callsInRow ts)
+batches-in-a-row b ts = feeding-in-row ts b
+
+-- "the image is rewritten for the monitor afterwards": what the host holds at the end is the image of that book
+pub host-image-is-book : (bytes : List ℕ) (h′ : HostImage) (ts : List LentBatch) (xs : List Answer) → length bytes ≡ roomRecords * recordSize
+    → HostSession (record { buffer = bytes; used = 0 }) ts xs h′ → usedRecords h′ ≡ bookImage (left bookStep freshBook (callsInRow ts))
+host-image-is-book bytes h′ ts xs n run =
+    let h : HostImage = record { buffer = bytes; used = 0 } in
+    ap usedRecords (calls-leave h h′ ts xs (omega arith) run) ∙ rounds-write ts h freshBook (fresh-says bytes n) refl ∙ ap bookImage (feeding-in-row ts freshBook)
+
+-- The same from any image that the host may hold: of the book of any session, it goes on as that book, with its list;
+pub host-goes-on : (os : List Operation) (h h′ : HostImage) (ts : List LentBatch) (xs : List Answer) → Room h → usedRecords h ≡ bookImage (book os)
+    → HostSession h ts xs h′ → xs ≡ answers feed (book os) ts
+host-goes-on os h h′ ts xs r e run = calls-are-book h h′ (book os) ts xs (image-says h (book os) (operations-proper os .now) r e) run
+
+-- and any other that is accepted, as the book that follows the marks it gives.
+pub host-follows-image : (h h′ : HostImage) (m : PositionMachine) (ts : List LentBatch) (xs : List Answer) → Room h → Accepted (usedRecords h) m
+    → HostSession h ts xs h′ → xs ≡ answers feed (bookFrom m) ts
+host-follows-image h h′ m ts xs r k run = calls-are-book h h′ (bookFrom m) ts xs (given-says h m r (accepted-exactly (usedRecords h) m .1 k)) run
+
+-- "The outcome is that of returning to the image, running the tray and keeping.": of one call, those three operations in any session, by the book that remembers what it kept
+pub run-is-three-operations : (os : List Operation) (h h′ : HostImage) (t : LentBatch) (a : Answer) → Room h → HostCalls h t a h′
+    → OutcomeOf h t (answers bookOperate (session os) (roundOperations h t)) (h′, a)
+run-is-three-operations os h h′ t a r c =
+    subst (OutcomeOf h t (answers bookOperate (session os) (roundOperations h t))) (sym (call-is-round h t (omega (arith, r .within)) a h′ c))
+    (rows.round-operated h t (session os) (operations-proper os) r)
 
 -- Its second part: "Take any act in the book's list and any pattern whose roles were all held when that act was committed: the act meets it with the roles held then
 -- exactly when it meets it with those held after any later call while it stands in the list." The calls are some of those that the operations made: where an image was
