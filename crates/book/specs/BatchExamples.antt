@@ -17,15 +17,15 @@ pub record Done : Type 0 where
   pub result : Result
 
 -- parts of turns, one after the other
-abbrev joined : (Turn → List ℕ) → List Turn → List ℕ
+abbrev pub joined : (Turn → List ℕ) → List Turn → List ℕ
 joined part [] = []
 joined part (r ∷ rs) = part r ++ joined part rs
 
 -- the record bytes of turns, and the reply buffers as lent
-abbrev records : List Turn → List ℕ
+abbrev pub records : List Turn → List ℕ
 records rs = joined (λ r. r .call .bytes) rs
 
-abbrev lent : List Turn → List ℕ
+abbrev pub lent : List Turn → List ℕ
 lent rs = joined (λ r. r .call .buffer) rs
 
 -- a single call

@@ -22,3 +22,4 @@ pub mod Text
 pub mod Examples
 pub mod BatchExamples
 pub mod ImageExamples
+pub mod RoundExamples

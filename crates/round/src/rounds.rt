@@ -13,8 +13,8 @@ pub struct RoundEnd {
 }
 
 // The first `used` records of the image are restored, the batch is run, and the image is kept in the same buffer, whose bytes past it stay. Refused by 13, where the image
-// buffer is not of 127 records or fewer than `used`; then by 12, where the image is not accepted; then by 11, where the other two buffers are no batch: each leaves all buffers
-// as lent and hands back `used`. The length is looked at before it is multiplied, so that no product wraps. Keeping has its room, so it is not refused.
+// buffer is not of 127 records or `used` is above them; then by 12, where the image is not accepted; then by 11, where the other two buffers are no batch: each leaves all
+// buffers as lent and hands back `used`. The used number is looked at before it is multiplied, so that no product wraps. Every image has room, so keeping is not refused.
 pub fn run_round(image: &mut [u8], used: u32, records: &[u8], replies: &mut [u8]) -> RoundEnd
     ensures { λ r. ⌜ RoundRuns (now (image .entry)) used (now (records .entry)) (now (replies .entry)) (now (image .exit)) (now (replies .exit)) r ⌝ }
 {
