@@ -36,18 +36,18 @@ abbrev pub Shrinks : Type 0
 Shrinks = roundStep (held 16256 begunImage 1) (batchOf []) ≡ handedBack begunImage 1 []
 
 -- image buffer, used number, record bytes and reply bytes of no records, and the number
-pub record Refused : Type 0 where
+pub record RefusedRound : Type 0 where
   pub held : HostImage
   pub records : ℕ
   pub replies : ℕ
   pub number : ℕ
 
-abbrev refused : ℕ → ℕ → ℕ → ℕ → ℕ → Refused
+abbrev refused : ℕ → ℕ → ℕ → ℕ → ℕ → RefusedRound
 refused n used s b k = record { held = held n begunImage used; records = s; replies = b; number = k }
 
 -- "is 13 and is looked at first; then come 12 and 11": with a byte too few, and with used 128, where 12 and 11 are due too; used 4 has no record of marks, and 11 is due too;
 -- used 5 is accepted
-abbrev pub refusedRounds : List Refused
+abbrev pub refusedRounds : List RefusedRound
 refusedRounds =
     refused 16255 4 1 0 13
     ∷ refused 16256 128 1 0 13
@@ -55,8 +55,10 @@ refusedRounds =
     ∷ refused 16256 5 1 0 11
     ∷ []
 
-abbrev numberOf : Refused → ℕ
+-- the number of the round
+abbrev numberOf : RefusedRound → ℕ
 numberOf x = roundStep (x .held) (record { records = replicate (x .records) 7; replies = replicate (x .replies) 7 }) .1 .number
 
+-- is that one
 abbrev pub RefusedRight : Type 0
-RefusedRight = map numberOf refusedRounds ≡ map (λ (x : Refused). x .number) refusedRounds
+RefusedRight = map numberOf refusedRounds ≡ map (λ (x : RefusedRound). x .number) refusedRounds
