@@ -27,7 +27,7 @@ impl Batch {
     }
 
     /// Not whole records, over 512 of them, or not 50 bytes for each reply.
-    fn turned_away(&self) -> bool {
+    pub fn turned_away(&self) -> bool {
         let count = self.records.len() / RECORD;
         count * RECORD != self.records.len()
             || count > MOST
@@ -50,8 +50,7 @@ impl Batch {
     /// Of a batch only the first reply that differs is shown, with its record; the
     /// first of all where the numbers alone differ.
     pub fn shown(&self, due: &Answer, library: &Answer) -> String {
-        let mut both = due.reply.iter().zip(&library.reply);
-        let at = both.position(|(d, l)| d != l).unwrap_or(0) / reply::LENGTH;
+        let at = session::differing(&due.reply, &library.reply, reply::LENGTH).unwrap_or(0);
         let part = |answer: &Answer| Answer {
             reply: session::piece(&answer.reply, at, reply::LENGTH),
             ..*answer

@@ -1,6 +1,6 @@
 //! One session through the book and the library: its calls, questions to the judge
 //! about it, the same calls as operations, with images kept and restored between them,
-//! and some that don't fit.
+//! some that don't fit, and the same calls in rounds.
 
 use crate::cut::cut;
 use crate::file;
@@ -8,9 +8,11 @@ use crate::flat::Flat;
 use crate::image_session;
 use crate::images;
 use crate::judging;
+use crate::kinds::KINDS;
 use crate::misfit;
 use crate::operations::{self, Operation};
-use crate::session;
+use crate::rounds;
+use crate::session::{self, Call};
 use crate::stage::Stage;
 use crate::tally::Tally;
 
@@ -23,7 +25,8 @@ pub fn compare(number: usize, stage: &mut Stage, tally: &mut Tally) -> Result<()
     compare_judge(stage, tally)?;
     compare_misfit(stage, session::flat(&stage.calls), tally)?;
     compare_operations(number, stage, tally)?;
-    compare_image_sessions(number, stage, tally)
+    compare_image_sessions(number, stage, tally)?;
+    compare_runs(number, stage, tally)
 }
 
 fn compare_calls(stage: &Stage, tally: &mut Tally) -> Result<(), Failed> {
@@ -84,6 +87,37 @@ fn compare_image_session(
     tally.operations(&made.operations, &made.answers);
     tally.watched(&made.watch);
     compare_misfit(stage, operations::flat(&made.operations), tally)
+}
+
+/// Rounds over one image buffer: of the session's own calls for every third one, of
+/// a small session with many odd rounds for the others; both for one of each kind.
+fn compare_runs(number: usize, stage: &mut Stage, tally: &mut Tally) -> Result<(), Failed> {
+    let both = number < KINDS.len();
+    if both || number % 3 == 0 {
+        let own = stage.calls.clone();
+        compare_run(number, stage, &own, 8, tally)?;
+    }
+    if both || number % 3 != 0 {
+        let small = images::small(&mut stage.random).calls;
+        compare_run(number, stage, &small, 32, tally)?;
+    }
+    Ok(())
+}
+
+fn compare_run(
+    number: usize,
+    stage: &mut Stage,
+    calls: &[Call],
+    steps: usize,
+    tally: &mut Tally,
+) -> Result<(), Failed> {
+    let operations = cut(&mut stage.random, number, calls);
+    let made = rounds::made(&mut stage.random, number, &operations, steps);
+    if let Some(why) = rounds::difference(&made.rounds, &made.due) {
+        return Err((why, file::rounds_text(&made.rounds)));
+    }
+    tally.rounds(&made.rounds, &made.due);
+    Ok(())
 }
 
 fn compare_misfit(stage: &mut Stage, fitting: Flat, tally: &mut Tally) -> Result<(), Failed> {

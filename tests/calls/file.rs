@@ -1,7 +1,7 @@
 //! What failed, as text, and back.
 //!
 //! A line is `call RECORD LENT`, `batch RECORDS LENT`, `keep RECORDS LENT`,
-//! `restore IMAGE LENT`, `judge SHEET NUMBER RECORDS`,
+//! `restore IMAGE LENT`, `judge SHEET NUMBER RECORDS`, `round IMAGE USED RECORDS LENT`,
 //! `misfit RECORDS LENGTHS REPLIES SIZES NUMBERS` or, for operations,
 //! `misfit RECORDS LENGTHS REPLIES SIZES NUMBERS KINDS COUNTS`. Bytes are in
 //! hexadecimal, other numbers in decimal with commas, `-` for none. Lines that
@@ -13,6 +13,7 @@ use crate::judging::Question;
 use crate::keeping::{Keep, Restore};
 use crate::operations::Operation;
 use crate::plain::book::RECORD;
+use crate::rounds::Round;
 use crate::session::Call;
 
 /// One line.
@@ -20,6 +21,7 @@ pub enum Entry {
     Operation(Operation),
     Judge(Question),
     Misfit(Flat),
+    Round(Round),
 }
 
 fn listed(words: Vec<String>, between: &str) -> String {
@@ -73,10 +75,28 @@ pub fn operations_text(operations: &[Operation]) -> String {
             Operation::Restore(_) => ("restore", RECORD),
         };
         text += &format!("# {} {word}\n", at + 1);
-        for record in records.chunks(each) {
-            text += &format!("#   {}\n", record.escape_ascii());
-        }
+        text += &for_reader(records, each);
         text += &format!("{word} {} {}\n", hex(records), hex(lent));
+    }
+    text
+}
+
+fn for_reader(records: &[u8], each: usize) -> String {
+    let records = records.chunks(each);
+    records
+        .map(|record| format!("#   {}\n", record.escape_ascii()))
+        .collect()
+}
+
+pub fn rounds_text(rounds: &[Round]) -> String {
+    let mut text = String::new();
+    for (at, round) in rounds.iter().enumerate() {
+        let (records, lent) = (&round.batch.records, &round.batch.lent);
+        text += &format!("# {} round, used {}\n", at + 1, round.used);
+        text += &for_reader(round.used_records().unwrap_or_default(), RECORD);
+        text += &format!("# batch\n{}", for_reader(records, RECORD));
+        let (image, used) = (hex(&round.image), round.used);
+        text += &format!("round {image} {used} {} {}\n", hex(records), hex(lent));
     }
     text
 }
@@ -135,6 +155,14 @@ pub fn entry(line: &str) -> Option<Entry> {
             sheet: unhex(sheet)?,
             number: number.parse().ok()?,
             records: unhex(records)?,
+        })),
+        ["round", image, used, records, lent] => Some(Entry::Round(Round {
+            image: unhex(image)?,
+            used: used.parse().ok()?,
+            batch: Batch {
+                records: unhex(records)?,
+                lent: unhex(lent)?,
+            },
         })),
         ["misfit", a, b, c, d, e] => misfit([a, b, c, d, e]).map(Entry::Misfit),
         ["misfit", a, b, c, d, e, kinds, counts] => Some(Entry::Misfit(Flat {

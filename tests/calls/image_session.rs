@@ -2,17 +2,13 @@
 //! that images can be chosen by what the session wrote so far, and acts by what
 //! is held after a return.
 
-use crate::acts::{self, named};
 use crate::batch::Batch;
-use crate::language;
+use crate::held;
 use crate::operations::Operation;
-use crate::plain::reply;
 use crate::plain::session_book::SessionBook;
 use crate::random::Random;
-use crate::session::{Answer, Call};
-use crate::spell::{record, text, tokens, Tokens};
+use crate::session::Answer;
 use crate::tally::Watch;
-use crate::words;
 
 pub struct ImageSession {
     pub random: Random,
@@ -85,52 +81,23 @@ impl ImageSession {
         }
     }
 
-    /// A call with a record of these tokens, unless they have no room.
-    fn call(&mut self, kind: u8, tokens: &Tokens) -> Option<Call> {
-        let text = text(&mut self.random, tokens)?;
-        Some(Call {
-            record: record(kind, &text),
-            lent: self.random.bytes(reply::LENGTH),
-        })
-    }
-
-    fn tell(&mut self, kind: u8, tokens: &Tokens) {
-        if let Some(call) = self.call(kind, tokens) {
+    /// A rule or a role by a line, beside those that an image brought.
+    fn declare(&mut self) {
+        if let Some(call) = held::line(&mut self.random, self.book.now()) {
             self.step(Operation::Call(call));
         }
     }
 
-    /// A rule or a role by a line, beside those that an image brought.
-    fn declare(&mut self) {
-        let names = self.book.now().roles().names();
-        let names: Vec<String> = names
-            .map(|name| String::from_utf8_lossy(name).into_owned())
-            .collect();
-        let random = &mut self.random;
-        let made = if random.chance(70) {
-            language::rule(random, &names)
-        } else {
-            let (name, parent) = (words::name(random), random.pick(&names));
-            tokens(&["role", &name, "under", parent])
-        };
-        self.tell(b'L', &made);
-    }
-
     /// Acts that may lead one of the rules held to work, one by one or in a batch.
     fn lead(&mut self) {
-        let book = self.book.now();
-        if book.rules().is_empty() {
+        let calls = held::acts(&mut self.random, self.book.now());
+        if calls.is_empty() {
             return;
         }
-        let rule = self.random.pick(book.rules());
-        let marks = rule.marks(book.list(), book.roles());
-        let acts = acts::onward(&mut self.random, book.roles(), rule, &marks);
-        let tokens: Vec<Tokens> = acts.iter().map(named).collect();
         if self.random.chance(60) {
-            return tokens.iter().for_each(|act| self.tell(b'E', act));
+            let calls = calls.into_iter().map(Operation::Call);
+            return calls.for_each(|call| self.step(call));
         }
-        let calls = tokens.iter().filter_map(|act| self.call(b'E', act));
-        let calls: Vec<Call> = calls.collect();
         self.step(Operation::Batch(Batch::of(&calls)));
     }
 }

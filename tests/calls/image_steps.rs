@@ -2,15 +2,13 @@
 
 use crate::image_session::ImageSession;
 use crate::images;
-use crate::keeping::{Keep, Restore};
+use crate::keeping::{Keep, Restore, MOST};
 use crate::operations::Operation;
+use crate::plain::book::RECORD;
 use crate::plain::image::image;
 use crate::plain::reply;
 use crate::plain::restore::restored;
 use crate::spell::record;
-
-/// A buffer that any image fits: 63 roles, 32 rules and their marks.
-const ANY_IMAGE: usize = 127 * 128;
 
 impl ImageSession {
     /// Buffers of about the image's length above all.
@@ -22,7 +20,7 @@ impl ImageSession {
             5 => due + 1,
             6 => due + 127,
             7 => due + 128,
-            8 => ANY_IMAGE,
+            8 => MOST * RECORD,
             9 => due.saturating_sub(1),
             10 => 0,
             _ => any,
@@ -56,24 +54,16 @@ impl ImageSession {
             4 if self.random.chance(30) => Vec::new(),
             _ => self.changed(),
         };
-        if self.own_only && !self.is_own(&image) && restored(&image).is_some() {
+        if self.own_only && !images::is_own(&self.book, &image) && restored(&image).is_some() {
             return self.own();
         }
         image
     }
 
-    fn is_own(&self, image: &[u8]) -> bool {
-        self.book.kept().iter().any(|own| own.image == image)
-    }
-
-    /// An image that this session wrote, the last ones more often: they hold more.
-    /// Where there is none, the session writes one first.
+    /// An image that this session wrote. Where there is none, it writes one first.
     fn own(&mut self) -> Vec<u8> {
-        let kept = self.book.kept();
-        if !kept.is_empty() {
-            let most = *self.random.pick(&[2, 5, kept.len()]);
-            let last = &kept[kept.len().saturating_sub(most)..];
-            return self.random.pick(last).image.clone();
+        if !self.book.kept().is_empty() {
+            return images::own(&mut self.random, &self.book);
         }
         let image = image(self.book.now());
         let lent = self.random.bytes(image.len());

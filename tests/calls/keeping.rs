@@ -4,6 +4,9 @@ use crate::plain::book::RECORD;
 use crate::plain::session_book::SessionBook;
 use crate::session::{self, Answer};
 
+/// The most records of an image: 63 roles, 32 rules and their marks.
+pub const MOST: usize = 127;
+
 /// Keeping: the buffer for the image as it is lent. The record bytes are any, and
 /// nobody looks at them.
 pub struct Keep {
@@ -31,8 +34,7 @@ impl Keep {
     /// Of the image only the first record that differs is shown; the first of all
     /// where the numbers or the counts alone differ.
     pub fn shown(&self, due: &Answer, library: &Answer) -> String {
-        let mut both = due.reply.iter().zip(&library.reply);
-        let at = both.position(|(d, l)| d != l).unwrap_or(0) / RECORD;
+        let at = session::differing(&due.reply, &library.reply, RECORD).unwrap_or(0);
         let answer = |a: &Answer| {
             let record = session::piece(&a.reply, at, RECORD);
             let record = record.escape_ascii();

@@ -1,5 +1,5 @@
 //! Random sessions through the plain book and through the proved monitor,
-//! compared call by call and operation by operation, byte for byte.
+//! compared call by call, operation by operation and round by round, byte for byte.
 //!
 //! `calls [COUNT] [SEED]`: at least COUNT calls; fails at the first difference,
 //! and when something that should have occurred didn't.
@@ -13,6 +13,7 @@ mod compare;
 mod cut;
 mod file;
 mod flat;
+mod held;
 mod image_session;
 mod image_steps;
 mod images;
@@ -28,6 +29,7 @@ mod plain;
 mod random;
 mod refuse;
 mod replay;
+mod rounds;
 mod session;
 mod spell;
 mod spoil;

@@ -6,13 +6,14 @@ use crate::file::{entry, Entry};
 use crate::judging;
 use crate::misfit;
 use crate::operations::{self, Operation};
+use crate::rounds;
 use crate::session::{self, Call};
 
 /// Runs a file; says the first difference, or that there is none.
 pub fn replay(path: &Path) -> Result<String, String> {
     let wrong = |why: String| format!("calls: {}: {why}", path.display());
     let text = std::fs::read_to_string(path).map_err(|error| wrong(error.to_string()))?;
-    let mut operations = Vec::new();
+    let (mut operations, mut rounds) = (Vec::new(), Vec::new());
     for (at, line) in text.lines().enumerate() {
         if line.starts_with('#') {
             continue;
@@ -25,10 +26,15 @@ pub fn replay(path: &Path) -> Result<String, String> {
             }
             Entry::Judge(question) => judging::difference(&question),
             Entry::Misfit(flat) => misfit::wrong(&flat),
+            Entry::Round(round) => {
+                rounds.push(round);
+                None
+            }
         };
         apart.map_or(Ok(()), Err)?;
     }
     difference(&operations).map_or(Ok(()), Err)?;
+    rounds::difference(&rounds, &rounds::by_book(&rounds)).map_or(Ok(()), Err)?;
     Ok("calls: no difference".to_string())
 }
 

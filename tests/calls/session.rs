@@ -80,3 +80,9 @@ pub fn piece(bytes: &[u8], at: usize, length: usize) -> Vec<u8> {
     let piece = bytes.chunks(length).nth(at);
     piece.unwrap_or_default().to_vec()
 }
+
+/// The first place where two rows of pieces of that length differ.
+pub fn differing(due: &[u8], library: &[u8], length: usize) -> Option<usize> {
+    let mut both = due.chunks(length).zip(library.chunks(length));
+    both.position(|(d, l)| d != l)
+}

@@ -30,6 +30,15 @@ extern "C" {
         counts: *mut u32,
         counts_len: usize,
     ) -> u32;
+    fn stand_run(
+        image: *mut u8,
+        image_len: usize,
+        used: u32,
+        records: *const u8,
+        records_len: usize,
+        replies: *mut u8,
+        replies_len: usize,
+    ) -> u64;
     fn stand_judge(
         sheet: *const u8,
         sheet_len: usize,
@@ -91,6 +100,22 @@ pub fn operations(
             numbers.len(),
             counts.as_mut_ptr(),
             counts.len(),
+        )
+    }
+}
+
+/// A round: the monitor of the used records of the image takes the batch, and the image
+/// is rewritten. The refusal times 2^32, and the used number afterwards.
+pub fn run(image: &mut [u8], used: u32, records: &[u8], replies: &mut [u8]) -> u64 {
+    unsafe {
+        stand_run(
+            image.as_mut_ptr(),
+            image.len(),
+            used,
+            records.as_ptr(),
+            records.len(),
+            replies.as_mut_ptr(),
+            replies.len(),
         )
     }
 }

@@ -6,9 +6,11 @@ mod elsewhere;
 mod lines;
 mod marks;
 mod order;
+mod own;
 mod parts;
 
 pub use elsewhere::{elsewhere, small};
+pub use own::{is_own, own};
 
 use crate::plain::book::RECORD;
 use crate::random::Random;
@@ -62,9 +64,32 @@ static WAYS: [Way; 39] = [
     bytes::random,
 ];
 
+/// Those that give other marks which the pasts have.
+static OTHER_MARKS: [Way; 5] = [
+    marks::others,
+    marks::none,
+    marks::all,
+    marks::highest_alone,
+    marks::zero_too,
+];
+
+fn by(way: Way, random: &mut Random, image: &[u8]) -> Vec<u8> {
+    let mut records: Records = image.chunks(RECORD).map(<[u8]>::to_vec).collect();
+    way(random, &mut records);
+    records.concat()
+}
+
 /// The image changed in the way whose turn it is.
 pub fn changed(random: &mut Random, turn: usize, image: &[u8]) -> Vec<u8> {
-    let mut records: Records = image.chunks(RECORD).map(<[u8]>::to_vec).collect();
-    WAYS[turn % WAYS.len()](random, &mut records);
-    records.concat()
+    by(WAYS[turn % WAYS.len()], random, image)
+}
+
+/// The image changed in such a way that it is still one, mostly.
+pub fn still_an_image(random: &mut Random, image: &[u8]) -> Vec<u8> {
+    let way = match random.below(8) {
+        0..=3 => lines::respaced,
+        4 => lines::filled,
+        _ => *random.pick(&OTHER_MARKS),
+    };
+    by(way, random, image)
 }

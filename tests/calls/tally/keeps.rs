@@ -1,14 +1,11 @@
 //! What is seen in keeping.
 
 use super::images::{Last, Watch};
-use crate::keeping::Keep;
+use crate::keeping::{Keep, MOST};
 use crate::plain::book::{Book, RECORD};
 use crate::plain::image::image;
 use crate::plain::session_book::{SessionBook, TOO_SHORT};
 use crate::session::Answer;
-
-/// The most records of an image.
-const MOST: usize = 127;
 
 impl Watch {
     pub fn keep(&mut self, book: &SessionBook, keep: &Keep, answer: &Answer) {

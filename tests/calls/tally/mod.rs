@@ -3,9 +3,13 @@
 mod batches;
 mod calls;
 mod demanded;
+mod demanded_rounds;
 mod images;
 mod keeps;
 mod restores;
+mod rounds;
+mod rounds_refused;
+mod rounds_taken;
 mod why;
 
 pub use images::Watch;
@@ -17,7 +21,12 @@ use crate::judging::Question;
 use crate::operations::HIGHEST_KIND;
 use crate::plain::book::RECORD;
 use crate::plain::restore::restored;
-use demanded::DEMANDED;
+
+/// What must have been seen.
+fn demanded() -> impl Iterator<Item = &'static str> {
+    let rounds = demanded_rounds::DEMANDED.iter();
+    demanded::DEMANDED.iter().chain(rounds).copied()
+}
 
 /// How many of the counts go no higher than `most`.
 fn near(counts: &BTreeSet<usize>, most: usize) -> usize {
@@ -94,7 +103,7 @@ impl Tally {
                 println!("{times:9}  sessions of the kind {kind}");
             }
         }
-        for what in DEMANDED {
+        for what in demanded() {
             println!("{:9}  {what}", self.times(what));
         }
         println!(
@@ -106,8 +115,8 @@ impl Tally {
 
     /// What should have occurred and didn't.
     pub fn missing(&self) -> Vec<String> {
-        let unseen = DEMANDED.iter().filter(|what| self.times(what) == 0);
-        let mut missing: Vec<String> = unseen.map(|what| what.to_string()).collect();
+        let unseen = demanded().filter(|what| self.times(what) == 0);
+        let mut missing: Vec<String> = unseen.map(str::to_string).collect();
         if near(&self.lengths, 300) < 301 {
             missing.push("a record length from 0 to 300".to_string());
         }

@@ -11,7 +11,7 @@ use crate::plain::session_book::{SessionBook, NO_IMAGE};
 use crate::session::Answer;
 
 /// The lines of an image.
-fn lines(image: &[u8]) -> Vec<&[u8]> {
+pub(super) fn lines(image: &[u8]) -> Vec<&[u8]> {
     let records = image.chunks(RECORD);
     records.filter(|record| record[0] == b'L').collect()
 }
