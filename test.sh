@@ -1,6 +1,6 @@
 #!/usr/bin/env bash
-# All tests: a plain book written from documents 01 and 02 alone against the stored sessions and images and, by random sessions, call by call, in batches and with images kept and restored, against the
-# monitor; random pasts against a plain matcher; then every crate proved from nothing, every must-fail edit refused, every program run and compared with its stored output.
+# All tests: a plain book written from documents 01 and 02 alone against the stored sessions and images and, by random sessions, call by call, in batches, with images kept and restored and by a host's
+# rounds, against the monitor; random pasts against a plain matcher; then every crate proved from nothing, every must-fail edit refused, every program run and compared with its stored output.
 set -eu
 cd "$(dirname "$0")"
 rt fmt --check
