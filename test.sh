@@ -33,11 +33,14 @@ tests/demo/snapshots.sh
 rustc --edition 2021 -O -L target/staticlib -o "$out/calls" tests/calls/main.rs
 "$out/calls" stored crates/test_sessions/data
 "$out/calls" images tests/images
-"$out/calls"
 
-# The same with fewer calls, every access to memory watched.
+# Random sessions; beside them, on the other core, the same with fewer calls and every access to memory watched.
 command -v valgrind > /dev/null || { apt-get update && apt-get install -y valgrind; }
-valgrind --error-exitcode=1 -q "$out/calls" 6000
+valgrind --error-exitcode=1 -q "$out/calls" 6000 > "$out/watched" 2>&1 &
+watched=$!
+"$out/calls"
+wait "$watched" || { cat "$out/watched"; exit 1; }
+cat "$out/watched"
 valgrind --error-exitcode=1 -q --leak-check=full "$out/batches" crates/test_sessions/data/short-last-record.rec > /dev/null
 valgrind --error-exitcode=1 -q --leak-check=full "$out/snapshots" samples/snapshots.txt > /dev/null
 head -c 512 crates/session/data/session.rec > "$out/half-1"
