@@ -1,4 +1,4 @@
-//! Stored sessions through the library in batches, compared with the stored replies.
+//! Stored sessions through the library, in batches and in rounds, compared with the stored replies.
 
 use std::path::Path;
 
@@ -7,6 +7,7 @@ use crate::cut::evenly;
 use crate::operations::{difference, Operation};
 use crate::plain::book::RECORD;
 use crate::plain::reply;
+use crate::rounds::stored_difference;
 use crate::session::{Answer, Call};
 use crate::stored_sessions::sessions;
 
@@ -23,11 +24,11 @@ pub fn compare_all(directory: &Path) -> Result<String, String> {
     }
     let count = sessions.len();
     Ok(format!(
-        "calls: {count} stored sessions of {replies} replies, in batches of {SIZES:?}, no difference"
+        "calls: {count} stored sessions of {replies} replies, in batches and in rounds of {SIZES:?}, no difference"
     ))
 }
 
-/// One session, in batches of each size.
+/// One session, in batches of each size, on one monitor and on an image.
 fn compare(records: &[u8], stored: &[u8]) -> Result<(), String> {
     let calls: Vec<Call> = records.chunks(RECORD).map(call).collect();
     if stored.len() != calls.len() * reply::LENGTH {
@@ -38,6 +39,9 @@ fn compare(records: &[u8], stored: &[u8]) -> Result<(), String> {
         let due = answers(&operations, stored);
         if let Some(why) = difference(&operations, &due) {
             return Err(format!("in batches of {size}: {why}"));
+        }
+        if let Some(why) = stored_difference(&operations, &due) {
+            return Err(format!("in rounds of {size}: {why}"));
         }
     }
     Ok(())

@@ -7,9 +7,11 @@ mod odd;
 mod others;
 mod run;
 mod shown;
+mod stored;
 mod whole;
 
 pub use run::made;
+pub use stored::stored_difference;
 pub use whole::goes_on;
 
 use crate::batch::{Batch, TURNED_AWAY};
