@@ -7,7 +7,7 @@ use mathlib.Core.Option.{none, some}
 use Prim.Native.Nat.{ℕ, _*_, _/_, _≤_}
 use native.Mathlib.Omega.{arith}
 use lib.Dec.{eqb, leb}
-use lib.ListN.{length, take, drop, length-append, length-map, length-drop}
+use lib.ListN.{length, drop, length-append, length-map, length-drop}
 use lib.Seq.{take-at}
 use borrow.Author.Tests.{eqb-true, eq-eqb, leb-true, le-leb}
 use Rattle.common.proofs.Bools.{and-left, and-right, and-both}

@@ -1,28 +1,27 @@
 -- A round goes exactly as C-13 says, and as restoring, running the batch and keeping in any session.
 -- Assumes nothing.
-use mathlib.Core.Path.{_≡_, refl, sym, ap, ap₂, _∙_, subst}
-use mathlib.Core.Bool.{Bool, true, false, cond}
+use mathlib.Core.Path.{_≡_, refl, sym, ap, _∙_, subst}
+use mathlib.Core.Bool.{Bool, true, false}
 use mathlib.Core.Logic.{_↔_}
-use mathlib.Core.List.{List, [], _∷_, _++_}
+use mathlib.Core.List.{List, [], _∷_}
 use mathlib.Core.Option.{Option, none, some}
-use Prim.Native.Nat.{ℕ, _/_, _≤_}
+use Prim.Native.Nat.{ℕ, _≤_, _<_}
 use native.Mathlib.Omega.{arith}
-use lib.ListN.{length, drop}
-use Rattle.common.specs.Limits.{recordSize}
+use lib.ListN.{length}
 use Rattle.common.proofs.Bools.{not-true, true-not-false}
 use Rattle.book.specs.Decide.{Answer}
 use Rattle.book.specs.MachineSteps.{PositionMachine, machineStep, machineOf}
 use Rattle.book.specs.Session.{answers, left}
-use Rattle.book.specs.Batches.{BatchOf, batchFits, batchCalls, batchTaken, batchBy, runBatch}
+use Rattle.book.specs.Batches.{BatchOf, batchFits, batchCalls, batchTaken, batchBy}
 use Rattle.book.specs.Images.{imageOf}
 use Rattle.book.specs.Restoring.{restored}
 use Rattle.book.specs.Accepted.{Accepted}
-use Rattle.book.specs.Operations.{Operation, Result, answered, kept, replaced, keptIn, restoredOr, machineOperate}
+use Rattle.book.specs.Operations.{Result, answered, kept, replaced, keptIn, restoredOr}
 use Rattle.book.specs.SessionBook.{SessionBook, bookOperate}
 use Rattle.book.specs.Rounds.{roomRecords, HostImage, LentBatch, usedRecords, roomFits, rewritten, roundRefused, roundTaken, roundStep}
 use Rattle.book.specs.RoundRows.{Room, RoundRow, row-13, row-12, row-11, row-taken, roundOperations, OutcomeOf, not-restored, no-batch, all-done}
 use Rattle.book.proofs.Batches.{fits-exactly}
-use Rattle.book.proofs.Lasting.{Lasting, left-lasting}
+use Rattle.book.proofs.Lasting.{left-lasting}
 use Rattle.book.proofs.Accepted.{restored-lasting}
 use Rattle.book.proofs.AcceptedLaws.{accepted-exactly, turned-away-exactly}
 use Rattle.book.proofs.Whole.{Proper, operations-same}
@@ -35,6 +34,7 @@ module _ (h : HostImage) (t : LentBatch) where
   unfit : batchFits (t .records) (t .replies) ≡ false → (n : ℕ) → BatchOf n (t .records) (t .replies) → ⊥
   unfit e n w = true-not-false (batchFits (t .records) (t .replies)) (fits-exactly (t .records) (t .replies) .1 (n, w)) e
 
+  -- the row by whether the buffers are a batch, the image being accepted;
   row-by-batch : (q : Bool) → batchFits (t .records) (t .replies) ≡ q → roomFits (length (h .buffer)) (h .used) ≡ true → (m : PositionMachine) → restored (usedRecords h) ≡ some m
       → RoundRow h t (roundStep h t)
   row-by-batch true e f m g =
@@ -42,14 +42,17 @@ module _ (h : HostImage) (t : LentBatch) where
       subst (RoundRow h t) (sym (by-taking h t f m g e)) (row-taken m (w .0) (room-told h f) (accepted-exactly (usedRecords h) m .0 g) (w .1))
   row-by-batch false e f m g = subst (RoundRow h t) (sym (by-batch h t f m g e)) (row-11 m (room-told h f) (accepted-exactly (usedRecords h) m .0 g) (unfit e))
 
+  -- by what the image says, the sizes being right;
   row-by-image : (o : Option PositionMachine) → restored (usedRecords h) ≡ o → roomFits (length (h .buffer)) (h .used) ≡ true → RoundRow h t (roundStep h t)
   row-by-image none g f = subst (RoundRow h t) (sym (by-image h t f g)) (row-12 (room-told h f) (turned-away-exactly (usedRecords h) .0 g))
   row-by-image (some m) g f = row-by-batch (batchFits (t .records) (t .replies)) refl f m g
 
+  -- by the sizes
   row-by-room : (q : Bool) → roomFits (length (h .buffer)) (h .used) ≡ q → RoundRow h t (roundStep h t)
   row-by-room true f = row-by-image (restored (usedRecords h)) refl f
   row-by-room false f = subst (RoundRow h t) (sym (by-room h t f)) (row-13 (λ r. true-not-false (roomFits (length (h .buffer)) (h .used)) (room-fits h r) f))
 
+  -- a round goes by one of the rows
   pub round-row : RoundRow h t (roundStep h t)
   round-row = row-by-room (roomFits (length (h .buffer)) (h .used)) refl
 
@@ -62,48 +65,9 @@ module _ (h : HostImage) (t : LentBatch) where
       (not-true (batchFits (t .records) (t .replies)) (λ e. let k = fits-exactly (t .records) (t .replies) .0 e in w (k .0) (k .1)))
   row-step x (row-taken m n r a w) = by-taking h t (room-fits h r) m (accepted-exactly (usedRecords h) m .1 a) (fits-exactly (t .records) (t .replies) .1 (n, w))
 
+  -- so the rows say exactly what comes of a round
   pub round-exactly : (x : HostImage × Answer) → (roundStep h t ≡ x) ↔ RoundRow h t x
   round-exactly x = (λ e. subst (RoundRow h t) e round-row, row-step x)
-
-  -- The number is 13 exactly where the image buffer or the used number does not fit.
-  pub thirteen-exactly : (roundStep h t .1 .number ≡ 13) ↔ (Room h → ⊥)
-  thirteen-exactly = go (roundStep h t) round-row
-    where
-      go : (x : HostImage × Answer) → RoundRow h t x → (x .1 .number ≡ 13) ↔ (Room h → ⊥)
-      go x (row-13 r) = (λ e. r, λ k. refl)
-      go x (row-12 r a) = (λ e. absurd (omega (arith, e)), λ k. absurd (k r))
-      go x (row-11 m r a w) = (λ e. absurd (omega (arith, e)), λ k. absurd (k r))
-      go x (row-taken m n r a w) = (λ e. absurd (omega (arith, e)), λ k. absurd (k r))
-
-  -- It is 12 exactly where they fit and the image is not accepted.
-  pub twelve-exactly : (roundStep h t .1 .number ≡ 12) ↔ (Room h × ((m : PositionMachine) → Accepted (usedRecords h) m → ⊥))
-  twelve-exactly = go (roundStep h t) round-row
-    where
-      go : (x : HostImage × Answer) → RoundRow h t x → (x .1 .number ≡ 12) ↔ (Room h × ((m : PositionMachine) → Accepted (usedRecords h) m → ⊥))
-      go x (row-13 r) = (λ e. absurd (omega (arith, e)), λ k. absurd (r (k .0)))
-      go x (row-12 r a) = (λ e. (r, a), λ k. refl)
-      go x (row-11 m r a w) = (λ e. absurd (omega (arith, e)), λ k. absurd (k .1 m a))
-      go x (row-taken m n r a w) = (λ e. absurd (omega (arith, e)), λ k. absurd (k .1 m a))
-
-  -- It is 11 exactly where the image is accepted and the other two buffers are no batch.
-  pub eleven-exactly : (roundStep h t .1 .number ≡ 11) ↔ (Room h × ((m : PositionMachine) × Accepted (usedRecords h) m) × ((n : ℕ) → BatchOf n (t .records) (t .replies) → ⊥))
-  eleven-exactly = go (roundStep h t) round-row
-    where
-      go : (x : HostImage × Answer) → RoundRow h t x → (x .1 .number ≡ 11) ↔ (Room h × ((m : PositionMachine) × Accepted (usedRecords h) m) × ((n : ℕ) → BatchOf n (t .records) (t .replies) → ⊥))
-      go x (row-13 r) = (λ e. absurd (omega (arith, e)), λ k. absurd (r (k .0)))
-      go x (row-12 r a) = (λ e. absurd (omega (arith, e)), λ k. absurd (a (k .1 .0) (k .1 .1)))
-      go x (row-11 m r a w) = (λ e. (r, (m, a), w), λ k. refl)
-      go x (row-taken m n r a w) = (λ e. absurd (omega (arith, e)), λ k. absurd (k .2 n w))
-
-  -- It is 0 exactly where all fit.
-  pub zero-exactly : (roundStep h t .1 .number ≡ 0) ↔ (Room h × ((m : PositionMachine) × Accepted (usedRecords h) m) × ((n : ℕ) × BatchOf n (t .records) (t .replies)))
-  zero-exactly = go (roundStep h t) round-row
-    where
-      go : (x : HostImage × Answer) → RoundRow h t x → (x .1 .number ≡ 0) ↔ (Room h × ((m : PositionMachine) × Accepted (usedRecords h) m) × ((n : ℕ) × BatchOf n (t .records) (t .replies)))
-      go x (row-13 r) = (λ e. absurd (omega (arith, e)), λ k. absurd (r (k .0)))
-      go x (row-12 r a) = (λ e. absurd (omega (arith, e)), λ k. absurd (a (k .1 .0) (k .1 .1)))
-      go x (row-11 m r a w) = (λ e. absurd (omega (arith, e)), λ k. absurd (w (k .2 .0) (k .2 .1)))
-      go x (row-taken m n r a w) = (λ e. (r, (m, a), (n, w)), λ k. refl)
 
   -- A number other than 0: what the host holds and the reply buffer are as they were.
   pub round-steady : (roundStep h t .1 .number ≡ 0 → ⊥) → roundStep h t ≡ roundRefused (roundStep h t .1 .number) h t
@@ -114,6 +78,23 @@ module _ (h : HostImage) (t : LentBatch) where
       go x (row-12 r a) z = refl
       go x (row-11 m r a w) z = refl
       go x (row-taken m n r a w) z = absurd (z refl)
+
+  -- The number is n, a refusal's, exactly where the row of n refuses the round.
+  pub refused-exactly : (n : ℕ) → 0 < n → (roundStep h t .1 .number ≡ n) ↔ RoundRow h t (roundRefused n h t)
+  refused-exactly n pos = (refuses, λ r. ap (λ (x : HostImage × Answer). x .1 .number) (row-step (roundRefused n h t) r))
+    where
+      refuses : roundStep h t .1 .number ≡ n → RoundRow h t (roundRefused n h t)
+      refuses e = subst (RoundRow h t) (round-steady (λ z. omega (arith, z, e, pos)) ∙ ap (λ (k : ℕ). roundRefused k h t) e) round-row
+
+  -- It is 0 exactly where the row that takes it does, by the machine that the image says.
+  pub taken-exactly : (roundStep h t .1 .number ≡ 0) ↔ ((m : PositionMachine) × RoundRow h t (roundTaken m h t))
+  taken-exactly = (takes (roundStep h t) round-row, λ r. ap (λ (x : HostImage × Answer). x .1 .number) (row-step (roundTaken (r .0) h t) (r .1)))
+    where
+      takes : (x : HostImage × Answer) → RoundRow h t x → x .1 .number ≡ 0 → (m : PositionMachine) × RoundRow h t (roundTaken m h t)
+      takes x (row-13 r) e = absurd (omega (arith, e))
+      takes x (row-12 r a) e = absurd (omega (arith, e))
+      takes x (row-11 m r a w) e = absurd (omega (arith, e))
+      takes x (row-taken m n r a w) e = (m, row-taken m n r a w)
 
   -- A used number that is handed back is the one passed, or one within the image buffer.
   pub used-within : (k : ℕ) → roomRecords ≤ k → h .used ≤ k → roundStep h t .0 .used ≤ k
@@ -137,6 +118,7 @@ module _ (h : HostImage) (t : LentBatch) where
       let x = batchBy q machineStep m (t .records) (t .replies) in
       restoredOr u o .1 ∷ answered (x .1) ∷ keptIn (imageOf (x .0)) (h .buffer) ∷ []
 
+  -- the outcome by what the image says and whether the buffers are a batch
   outcome : (u : PositionMachine) → Room h → (o : Option PositionMachine) → restored (usedRecords h) ≡ o → (q : Bool) → batchFits (t .records) (t .replies) ≡ q
       → OutcomeOf h t (results u o q) (roundStep h t)
   outcome u r none g q e = subst (OutcomeOf h t (results u none q)) (sym (by-image h t (room-fits h r) g)) (not-restored _ _)

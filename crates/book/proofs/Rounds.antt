@@ -48,6 +48,7 @@ here-same b p = record { placed = p; state = refl }
 fed-same : (b : Book) → Placed b → (cs : List Call) → Same (left machineStep (machineOf b) cs) (left bookStep b cs)
 fed-same b p cs = left-alike machineStep bookStep Same step-same cs (machineOf b) b (here-same b p)
 
+-- a round answers as the book fed with the batch, and what is held afterwards says the book afterwards
 pub round-same : (h : HostImage) (b : Book) → SaysBook h b → (t : LentBatch) → Agrees (roundStep h t) (feed b t)
 round-same h b s t = go (batchFits (t .records) (t .replies)) refl
   where
@@ -98,6 +99,7 @@ round-writes h b s k t = go (batchFits (t .records) (t .replies)) refl
         ∙ ap imageOf (after .state)
     go false e = ap (λ (x : HostImage × Answer). usedRecords (x .0)) (by-batch h t (room-fits h (s .room)) (machineOf b) (s .image) e) ∙ k
 
+-- over every list
 pub rounds-write : (ts : List LentBatch) (h : HostImage) (b : Book) → SaysBook h b → usedRecords h ≡ bookImage b → usedRecords (left roundStep h ts) ≡ bookImage (left feed b ts)
 rounds-write [] h b s k = k
 rounds-write (t ∷ ts) h b s k = rounds-write ts (roundStep h t .0) (feed b t .0) (round-same h b s t .1) (round-writes h b s k t)

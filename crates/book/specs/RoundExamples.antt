@@ -3,7 +3,7 @@
 use mathlib.Core.Path.{_≡_}
 use mathlib.Core.List.{List, [], _∷_, _++_, map}
 use Prim.Native.Nat.{ℕ}
-use lib.ListN.{take, drop, replicate}
+use lib.ListN.{take, replicate}
 use Rattle.book.specs.Decide.{Answer}
 use Rattle.book.specs.Rounds.{HostImage, LentBatch, roundStep}
 use Rattle.book.specs.Examples.{Turn, turn}

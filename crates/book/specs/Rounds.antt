@@ -98,6 +98,7 @@ abbrev pub takenBytes : ℕ → List ℕ → List ℕ
 takenBytes zero b = b
 takenBytes (suc n) b = []
 
+-- of an answer, by its number
 abbrev pub replyTaken : Answer → List ℕ
 replyTaken a = takenBytes (a .number) (a .buffer)
 

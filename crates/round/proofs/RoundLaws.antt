@@ -20,14 +20,14 @@ use Rattle.book.specs.Batches.{batchFits, batchCalls, batchBy}
 use Rattle.book.specs.Images.{imageOf}
 use Rattle.book.specs.Restoring.{restored}
 use Rattle.book.specs.Operations.{Result, answered, kept, replaced, keptIn}
-use Rattle.book.specs.Rounds.{HostImage, LentBatch, roomFits, rewritten, roundTaken}
+use Rattle.book.specs.Rounds.{HostImage, LentBatch, roomFits, rewritten}
 use Rattle.book.proofs.Lasting.{Lasting, left-lasting}
 use Rattle.book.proofs.Accepted.{restored-lasting}
 use Rattle.book.proofs.RoundLaws.{room-told, by-room, by-image, by-batch, by-taking, image-fits, kept-with-room}
 use Rattle.monitor.specs.declared.calls.Handled.{Handled}
 use Rattle.batch.specs.Handled.{BatchHandles}
 use Rattle.batch.proofs.BatchRight.{batch-represents}
-use Rattle.snapshot.specs.Written.{stateImage, Keeps}
+use Rattle.snapshot.specs.Written.{Keeps}
 use Rattle.snapshot.specs.Reading.{RestoredAs, Restores}
 use Rattle.snapshot.specs.declared.keeping.Kept.{Kept}
 use Rattle.snapshot.proofs.StateImage.{image-of-state}

@@ -4,7 +4,7 @@ use mathlib.Core.Path.{_≡_}
 use mathlib.Core.List.{List}
 use Prim.Native.Nat.{ℕ}
 use Rattle.book.specs.Decide.{Answer}
-use Rattle.book.specs.Rounds.{HostImage, LentBatch, roundStep}
+use Rattle.book.specs.Rounds.{HostImage, roundStep}
 use Rattle.round.specs.declared.rounds.RoundEnd.{RoundEnd}
 
 -- what is handed back, and the image and the reply buffer afterwards, are those of C-13's round; nothing else is looked at

@@ -42,7 +42,7 @@ use Rattle.book.specs.Operations.{Operation, restore, Result, kept, replaced, c
 use Rattle.book.specs.SessionBook.{SessionBook, freshSession, bookImage, bookFrom, bookOperate}
 use Rattle.book.specs.Accepted.{Accepted}
 use Rattle.book.specs.KeptRows.{KeptRow}
-use Rattle.book.specs.Rounds.{roomRecords, HostImage, LentBatch, usedRecords, roundStep, feed, callsInRow, repliesTaken}
+use Rattle.book.specs.Rounds.{roomRecords, HostImage, LentBatch, usedRecords, roundRefused, roundTaken, roundStep, feed, callsInRow, repliesTaken}
 use Rattle.book.specs.RoundRows.{Room, RoundRow, roundOperations, OutcomeOf}
 use Rattle.book.specs.Standing.{Unrestored, Story, Stands}
 use Rattle.book.specs.Readings.{Does}
@@ -144,30 +144,16 @@ run-by-row h h′ t a small c x =
     let k = rows.round-exactly h t x in
     (λ q. k .0 (sym e ∙ q), λ r. e ∙ k .1 r)
 
--- so the number is 13 exactly where the image buffer is not of 127 records or the used number is above them;
-pub run-refused-by-room : (h h′ : HostImage) (t : LentBatch) (a : Answer) → h .used < shift → HostCalls h t a h′ → (a .number ≡ 13) ↔ (Room h → ⊥)
-run-refused-by-room h h′ t a small c =
-    subst (λ (x : HostImage × Answer). (x .1 .number ≡ 13) ↔ (Room h → ⊥)) (sym (call-is-round h t small a h′ c)) (rows.thirteen-exactly h t)
+-- So the number is n, a refusal's, exactly when C-13's row of n refuses the call, every row before it being passed;
+pub run-refused-by-row : (h h′ : HostImage) (t : LentBatch) (a : Answer) → h .used < shift → HostCalls h t a h′
+    → (n : ℕ) → 0 < n → (a .number ≡ n) ↔ RoundRow h t (roundRefused n h t)
+run-refused-by-row h h′ t a small c n pos =
+    subst (λ (x : HostImage × Answer). (x .1 .number ≡ n) ↔ RoundRow h t (roundRefused n h t)) (sym (call-is-round h t small a h′ c)) (rows.refused-exactly h t n pos)
 
--- 12 exactly where these fit and the used records are no image that is accepted;
-pub run-refused-by-image : (h h′ : HostImage) (t : LentBatch) (a : Answer) → h .used < shift → HostCalls h t a h′
-    → (a .number ≡ 12) ↔ (Room h × ((m : PositionMachine) → Accepted (usedRecords h) m → ⊥))
-run-refused-by-image h h′ t a small c =
-    subst (λ (x : HostImage × Answer). (x .1 .number ≡ 12) ↔ (Room h × ((m : PositionMachine) → Accepted (usedRecords h) m → ⊥))) (sym (call-is-round h t small a h′ c)) (rows.twelve-exactly h t)
-
--- 11 exactly where the image is accepted and the other two buffers are those of no batch;
-pub run-refused-by-batch : (h h′ : HostImage) (t : LentBatch) (a : Answer) → h .used < shift → HostCalls h t a h′
-    → (a .number ≡ 11) ↔ (Room h × ((m : PositionMachine) × Accepted (usedRecords h) m) × ((n : ℕ) → BatchOf n (t .records) (t .replies) → ⊥))
-run-refused-by-batch h h′ t a small c =
-    subst (λ (x : HostImage × Answer). (x .1 .number ≡ 11) ↔ (Room h × ((m : PositionMachine) × Accepted (usedRecords h) m) × ((n : ℕ) → BatchOf n (t .records) (t .replies) → ⊥)))
-    (sym (call-is-round h t small a h′ c)) (rows.eleven-exactly h t)
-
--- and 0 exactly where all fit: keeping is never refused.
-pub run-taken-by-all : (h h′ : HostImage) (t : LentBatch) (a : Answer) → h .used < shift → HostCalls h t a h′
-    → (a .number ≡ 0) ↔ (Room h × ((m : PositionMachine) × Accepted (usedRecords h) m) × ((n : ℕ) × BatchOf n (t .records) (t .replies)))
-run-taken-by-all h h′ t a small c =
-    subst (λ (x : HostImage × Answer). (x .1 .number ≡ 0) ↔ (Room h × ((m : PositionMachine) × Accepted (usedRecords h) m) × ((n : ℕ) × BatchOf n (t .records) (t .replies))))
-    (sym (call-is-round h t small a h′ c)) (rows.zero-exactly h t)
+-- and 0 exactly when all rows are passed: keeping is never refused.
+pub run-taken-by-row : (h h′ : HostImage) (t : LentBatch) (a : Answer) → h .used < shift → HostCalls h t a h′ → (a .number ≡ 0) ↔ ((m : PositionMachine) × RoundRow h t (roundTaken m h t))
+run-taken-by-row h h′ t a small c =
+    subst (λ (x : HostImage × Answer). (x .1 .number ≡ 0) ↔ ((m : PositionMachine) × RoundRow h t (roundTaken m h t))) (sym (call-is-round h t small a h′ c)) (rows.taken-exactly h t)
 
 -- "Each of these three leaves all three buffers as lent and hands back the used number as it was passed.": what the host holds is the same, and so is the reply buffer. (The
 -- records are lent to be read only.)

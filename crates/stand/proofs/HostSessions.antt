@@ -56,7 +56,7 @@ module _ (h : HostImage) (t : LentBatch) (small : h .used < shift) where
   call-made =
       let x = roundStep h t in
       record {
-        r = returnedFor x;
+        value = returnedFor x;
         runs = record { returned = refl; image-left = refl; replies-left = refl };
         number = sym (upper-half (x .1 .number) (x .0 .used) still-small);
         used = sym (lower-half (x .1 .number) (x .0 .used) still-small);
@@ -69,6 +69,7 @@ record Holds (h g : HostImage) : Type 0 where
   same : h ≡ g
   small : g .used < shift
 
+-- one call keeps this
 each : (h h′ : HostImage) (t : LentBatch) (a : Answer) (g : HostImage) → Holds h g → HostCalls h t a h′ → (a ≡ roundStep g t .1) × Holds h′ (roundStep g t .0)
 each h h′ t a g k c =
     let small : h .used < shift = omega (arith, k .small, ap (λ (x : HostImage). x .used) (k .same)) in

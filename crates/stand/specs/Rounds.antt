@@ -24,10 +24,10 @@ pub record StandRuns (image : List ℕ) (used : ℕ) (records replies imageAfter
 -- A call of `stand_run` as a host makes it, with what it holds: it lends the image buffer and the used number, and a batch; and it reads the number and the used number, its
 -- upper and its lower half, out of what is returned.
 pub record HostCalls (h : HostImage) (t : LentBatch) (a : Answer) (h′ : HostImage) : Type 0 where
-  pub r : ℕ
-  pub runs : StandRuns (h .buffer) (h .used) (t .records) (t .replies) (h′ .buffer) (a .buffer) r
-  pub number : a .number ≡ r / shift
-  pub used : h′ .used ≡ r % shift
+  pub value : ℕ
+  pub runs : StandRuns (h .buffer) (h .used) (t .records) (t .replies) (h′ .buffer) (a .buffer) value
+  pub number : a .number ≡ value / shift
+  pub used : h′ .used ≡ value % shift
 
 -- calls in turn, "each call getting the image and the used number that the last one left": from what the host holds at first to what it holds at the end
 abbrev pub HostSession : HostImage → List LentBatch → List Answer → HostImage → Type 0

@@ -1,6 +1,6 @@
 -- `put_marks` meets its contract: the records before i are written. What falls is the records left.
 -- Assumes nothing.
-use mathlib.Core.Path.{_≡_, ap₂, _∙_}
+use mathlib.Core.Path.{ap₂, _∙_}
 use Rattle.names.specs.Unpacked.{unpacked}
 use Rattle.book.specs.Images.{digits, markRecord}
 use Prim.Native.Nat.{ℕ, _-_}

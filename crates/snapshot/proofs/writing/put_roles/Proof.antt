@@ -1,6 +1,6 @@
 -- `put_roles` meets its contract: the records before i are written. What falls is the records left.
 -- Assumes nothing.
-use mathlib.Core.Path.{_≡_, ap, ap₂, _∙_}
+use mathlib.Core.Path.{ap, ap₂, _∙_}
 use native.Mathlib.Numerals.{add-one}
 use lib.ListN.{getD}
 use Rattle.names.specs.Unpacked.{unpacked}

@@ -1,6 +1,6 @@
 -- `put_rules` meets its contract: the records before i are written. What falls is the records left.
 -- Assumes nothing.
-use mathlib.Core.Path.{_≡_, ap, ap₂, _∙_}
+use mathlib.Core.Path.{ap, ap₂, _∙_}
 use mathlib.Core.List.{List}
 use Rattle.frame.specs.Record.{lineByte}
 use Rattle.follow.specs.Rows.{codeOf}
