@@ -2,6 +2,8 @@
 //
 // Every function takes any bytes and any table of names, of any length, and its result is named for all of them. A name past the first 127 of a
 // table has no id, and of a text the first 126 tokens are coded: a record's text has no more.
+#![tactic(auto)]
+
 mod count;
 mod encode;
 mod events;

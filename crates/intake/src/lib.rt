@@ -1,6 +1,8 @@
 // One door for records: what a record asks, told by the names held, and the declaring of lines.
 //
 // Asking reads lent slices and changes nothing; declaring takes the state and hands it back. Every function takes any state and any bytes.
+#![tactic(auto)]
+
 mod asks;
 mod lines;
 

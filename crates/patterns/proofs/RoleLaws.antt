@@ -60,6 +60,7 @@ module _ {N : Type 0} (eq : N → N → Bool) (lawful : Lawful eq) where
   module _ (top : N) where
     parent-held : {rs : Roles N} → Grown eq top rs → {a p : N} → Has rs a p → is_held eq rs p ≡ true
     parent-held grown_fresh has_first = or_left (eq top top) _ (lawful.itself top)
+    parent-held grown_fresh {a = a} {p = p} (has_later t) = elim t [ ]
     parent-held (grown_more {r = r} f h g) has_first = or_right (eq r.parent r.name) _ h
     parent-held (grown_more {r = r} f h g) (has_later {p = p} t) = or_right (eq p r.name) _ (parent-held g t)
 
@@ -67,6 +68,7 @@ module _ {N : Type 0} (eq : N → N → Bool) (lawful : Lawful eq) where
     up : {rs : Roles N} → Grown eq top rs → {a p : N} → Has rs a p → (b : N) → is_below eq rs p b ≡ true → is_below eq rs a b ≡ true
     unfolding is_below
     up grown_fresh has_first b e = e
+    up grown_fresh {a = a} {p = p} (has_later t) b e = elim t [ ]
     up (grown_more {r = r} {rs = rs} f h g) has_first b e =
         or_right (eq r.name b) _
         (ap (λ (q : Bool). is_below eq rs (cond q r.parent r.name) b) (lawful.itself r.name) ∙ (sym (below-later r rs f r.parent b h) ∙ e))

@@ -52,8 +52,8 @@ module _ {A B : Type 0} where
   each_append (each_more e r) s = each_more e (each_append r s)
 
   pub each_cut : {f : A → B → Bool} {l : List A} (w w' : List B) → Each f l (w ++ w') → (l₁ : List A) × (l₂ : List A) × (l ≡ l₁ ++ l₂) × Each f l₁ w × Each f l₂ w'
-  each_cut {l} [] w' r = ([], l, refl, each_none, r)
-  each_cut (b ∷ w) w' (each_more {a = a} e r) = let s = each_cut w w' r in (a ∷ s.0, s.1, ap (λ t. a ∷ t) s.2, each_more e s.3, s.4)
+  each_cut {l = l} [] w' r = ([], l, refl, each_none, r)
+  each_cut {f = f} (b ∷ w) w' (each_more {a = a} {l = l} e r) = let s = each_cut {f = f} {l = l} w w' r in (a ∷ s.0, s.1, ap (λ t. a ∷ t) s.2, each_more e s.3, s.4)
 
   -- f gives g at the elements of the second list
   pub each_map : {f g : A → B → Bool} (R : B → Type 0) → ((a : A) (b : B) → R b → f a b ≡ true → g a b ≡ true) → {l : List A} {w : List B} → All R w → Each f l w → Each g l w

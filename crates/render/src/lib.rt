@@ -2,6 +2,8 @@
 // padding after the text."
 //
 // Every function takes any arguments. A line longer than a record's 126 bytes of text is cut there.
+#![tactic(auto)]
+
 mod codes;
 mod lines;
 

@@ -4,6 +4,8 @@
 // file gives no reply. A file that cannot be opened or read is named, with the reason, on standard error.
 //
 // One record is held at a time, so a session may be of any length.
+#![tactic(auto)]
+
 pub mod run;
 
 use run::all_records;

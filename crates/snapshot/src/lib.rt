@@ -1,6 +1,8 @@
 // Snapshots: the monitor written out as an image of records, and an image taken back (document 02, C-12: places to return to).
 //
 // Every function takes any monitor and buffers of any bytes and lengths.
+#![tactic(auto)]
+
 mod digits;
 mod keeping;
 mod lines;

@@ -1,6 +1,8 @@
 // The library for other languages: calls over byte buffers and numbers. A slice passes as a pointer and a length.
 //
 // Every call takes any bytes of any length and keeps nothing between calls. Where sizes do not fit it says so by its number and writes nothing.
+#![tactic(auto)]
+
 mod judging;
 mod operations;
 mod sessions;

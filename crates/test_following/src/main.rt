@@ -3,6 +3,8 @@
 // A step is a role line, a rule line or an event, read by crate `code` from a text that is in the language. What became of it is 0, or document
 // 01's refusal number; refusals 1 to 4 are the readers' and are not met here. A refused step leaves the state as it was. An event is committed as
 // it is given: no chain is worked.
+#![tactic(auto)]
+
 pub mod full;
 pub mod sheet;
 pub mod shown;

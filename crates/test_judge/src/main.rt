@@ -6,6 +6,8 @@
 //
 // A case that comes out as stored prints `ok`, the answer and its words. Another prints `not` and the judge's answer before them. The last line
 // counts both.
+#![tactic(auto)]
+
 pub mod answers;
 pub mod cases;
 pub mod fields;

@@ -7,6 +7,8 @@
 //
 // The names held are top, lamp, uv and expose, whatever lines came before. So refusals 2, 3, 4, 6 and 7 of document 01 are told, in that
 // order, and 5 and 8, which need a monitor, are not.
+#![tactic(auto)]
+
 pub mod cases;
 pub mod judged;
 pub mod shown;

@@ -3,6 +3,8 @@
 // The file `names.txt` has the name of a session to a line, at most 65,536 bytes in all. NAME.rec has the session's records and NAME.out the
 // replies of 50 bytes. A session that comes out as stored prints `NAME ok` and the number of replies. Another prints where it first differs: the
 // reply, from 0 on, and the byte. The last line counts both.
+#![tactic(auto)]
+
 pub mod compare;
 pub mod files;
 pub mod sessions;

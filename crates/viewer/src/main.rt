@@ -9,6 +9,8 @@
 // - then ` |`, and a space and its name for each rule whose past matches now, or ` -` where there is none; the newline ends the line.
 //
 // A short last record gets R 02. An empty file gives no line. A file that cannot be opened or read is named, with the reason, on standard error.
+#![tactic(auto)]
+
 pub mod answers;
 pub mod matching;
 pub mod records;

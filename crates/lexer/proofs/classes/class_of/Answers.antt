@@ -1,0 +1,6 @@
+use Rattle.lexer.proofs.ClassTable.{class_at}
+use borrow.Author.Rules.{rules}
+use Rattle.lexer.proofs.classes.class_of.Goals as goal
+
+pub returns : goal.returns
+returns c = class_at c.args.b (search rules)

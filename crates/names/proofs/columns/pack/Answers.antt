@@ -1,0 +1,7 @@
+use borrow.Author.Rules.{rules}
+use Rattle.names.specs.Name.{packed}
+use Rattle.names.proofs.columns.pack.Goals as goal
+
+pub returns : goal.returns
+unfolding packed
+returns c = cc

@@ -1,0 +1,7 @@
+use borrow.Author.Rules.{rules}
+use Rattle.positions.specs.Summaries.{ends_of}
+use Rattle.positions.proofs.summaries.ends.Goals as goal
+
+pub returns : goal.returns
+unfolding ends_of
+returns c = cc

@@ -1,0 +1,7 @@
+use borrow.Author.Rules.{rules}
+use Rattle.positions.specs.Summaries.{step_of}
+use Rattle.positions.proofs.summaries.moved_on.Goals as goal
+
+pub returns : goal.returns
+unfolding step_of
+returns c = cc

@@ -1,0 +1,7 @@
+use borrow.Author.Rules.{rules}
+use Rattle.positions.specs.Summaries.{pat_summary}
+use Rattle.positions.proofs.summaries.one.Goals as goal
+
+pub returns : goal.returns
+unfolding pat_summary
+returns c = cc

@@ -1,0 +1,7 @@
+use borrow.Author.Rules.{rules}
+use Rattle.positions.specs.Summaries.{star_summary}
+use Rattle.positions.proofs.summaries.repeated.Goals as goal
+
+pub returns : goal.returns
+unfolding star_summary
+returns c = cc
