@@ -1,0 +1,10 @@
+use borrow.Author.Rules.{rules}
+use Rattle.columns.proofs.WriteLaws.{writes_then}
+use Rattle.columns.proofs.bytes.two_digits.Goals as goal
+
+-- `two_digits` meets its contract: one byte after the other.
+-- Assumes nothing.
+
+pub returns : goal.returns
+returns c =
+    writes_then c.put-units.ensures c.put.ensures
