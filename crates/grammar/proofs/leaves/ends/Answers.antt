@@ -1,0 +1,15 @@
+use mathlib.Core.Path.{sym}
+use mathlib.Core.Logic.{⊎_elim}
+use native.Mathlib.Omega.{arith}
+use Rattle.lexer.proofs.NextLaws.{next_means}
+use Rattle.grammar.proofs.LeafLaws.{ends-yes, ends-no}
+use borrow.Author.Rules.{rules}
+use Rattle.grammar.proofs.leaves.ends.Goals as goal
+
+-- `ends` answers whether no token is left.
+
+pub returns-in-End : goal.returns-in-End
+returns-in-End c = sym (ends-yes _ c.next.result (next_means _ _ c.next.ensures) c.in-End.is)
+
+pub returns-in_default : goal.returns-in_default
+returns-in_default c = sym (ends-no _ c.next.result (next_means _ _ c.next.ensures) c.in_default.not-End)
