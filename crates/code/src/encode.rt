@@ -15,7 +15,7 @@ const LETTERS: [u8; 22] = [
 ];
 
 // The code of a text: its length, its bytes, and whether a name in it is not held.
-#[derive(Drop)]
+#[derive(Clone, Copy)]
 pub struct Encoded {
     pub code: [u8; 126],
     pub len: usize,

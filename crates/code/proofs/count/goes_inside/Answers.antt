@@ -1,0 +1,11 @@
+use mathlib.Core.Path.{refl}
+use Rattle.code.proofs.count.goes_inside.Goals as goal
+
+-- `goes_inside` meets its contract.
+-- Assumes nothing.
+
+pub returns-then-inside : goal.returns-then-inside
+returns-then-inside c = rw c.if-inside.true refl
+
+pub returns : goal.returns
+returns c = rw c.if-inside.false refl
