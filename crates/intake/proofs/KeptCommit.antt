@@ -70,6 +70,8 @@ module _ (f g : State) (t : PositionMachine) (rep : Represents f t) (e : List �
   rules-kept : (k : ℕ) (l : List PositionRule) → k ≤ f.sheet.rule_count → Rules f k l → Rules g k (map (move_on t.roles named) l)
   rules-kept zero [] h rules-none = rules-none
   rules-kept (suc k) (x ∷ l) h (rules-more y ys) = rules-more (rule-kept k x h y) (rules-kept k l (omega arith) ys)
+  rules-kept zero (x ∷ l) h x5 = elim x5 [ ]
+  rules-kept (suc k) [] h x4 = elim x4 [ ]
 
   pub kept_commit : Represents g (with_event t named)
   kept_commit =

@@ -173,6 +173,8 @@ module _ (f : State) (z : Sized f) (t : PositionMachine) (rep : Represents f t) 
       rules-more
       (record { rule = rule-kept f.sheet rep.naming z.names z.parents w a p h room unnamed k x.rule y.rule; positions = y.positions; within = y.within })
       (rules-kept k l ys)
+  rules-kept zero (x ∷ l) x3 = elim x3 [ ]
+  rules-kept (suc k) [] x3 = elim x3 [ ]
 
   pub kept-role : Represents (join_role f (packed w) p) (with_role t w (name_at f.sheet p))
   kept-role =

@@ -83,6 +83,8 @@ module _ (f : State) (z : Sized f) (t : PositionMachine) (rep : Represents f t) 
   rules-kept zero [] h rules-none = rules-none
   rules-kept (suc k) (q ∷ l) h (rules-more x xs) =
       rules-more (record { rule = rule-kept k q.rule h x.rule; positions = old_positions k h ∙ x.positions; within = x.within }) (rules-kept k l (omega arith) xs)
+  rules-kept zero (q ∷ l) h x4 = elim x4 [ ]
+  rules-kept (suc k) [] h x4 = elim x4 [ ]
 
   naming : Naming after
   naming =

@@ -74,7 +74,7 @@ module _ (f : State) (z : Sized f) (s : List ℕ) (l : RoleLine) (read : l ≡ r
     role-taken a b c =
         let below : l.parent < f.sheet.role_count = subst (λ (x : ℕ). l.parent < x) (roles-capped f.sheet rep.naming) (ltb-true _ _ (is-held ∙ b)) in
         let parent : name_at f.sheet l.parent ≡ p =
-        ap (name_at f.sheet) told.parent ∙ naming.place_is f.sheet rep.naming p parent-word (subst (λ (x : ℕ). x < f.sheet.role_count) told.parent below) in
+        ap (name_at f.sheet) told.parent ∙ naming.place_is_lem f.sheet rep.naming p parent-word (subst (λ (x : ℕ). x < f.sheet.role_count) told.parent below) in
         let free : is_held same t.roles w ≡ false = free-held (is_held same t.roles w) _ a in
         let kept = kept-role f z t rep w word l.parent below (ltb-true _ _ (has_room ∙ c)) free in
         taking_role f t (line_asked t (some (role w p))) (declare_role f l) (join_role f l.name l.parent) w word l.name name-is

@@ -39,6 +39,8 @@ roles-long nm ps (suc n) = ap suc (roles-long nm ps n)
 pub rules-long : (f : State) (k : ℕ) (l : List PositionRule) → Rules f k l → length l ≡ k
 rules-long f zero [] rules-none = refl
 rules-long f (suc k) (r ∷ l) (rules-more x xs) = ap suc (rules-long f k l xs)
+rules-long f zero (r ∷ l) x'' = elim x'' [ ]
+rules-long f (suc k) [] x3 = elim x3 [ ]
 
 not_both : (a b : Bool) → (not a || not b) ≡ not (a && b)
 not_both true b = refl
@@ -88,6 +90,8 @@ module _ (f : State) (z : Sized f) (t : PositionMachine) (rep : Represents f t) 
       down e =
           let q : r.rule.name ≡ w = word_same r.rule.name w x.rule.word a (sym x.rule.named ∙ eqb-true (get_or f.sheet.rule_names k 0) (packed w) e) in
           subst (λ (v : Name). same w v ≡ true) (sym q) (same_refl w)
+  rule-named zero (r ∷ l) w a m x6 = elim x6 [ ]
+  rule-named (suc k) [] w a m x5 = elim x5 [ ]
 
       up : same w r.rule.name ≡ true → eqb (get_or f.sheet.rule_names k 0) (packed w) ≡ true
       up e = eq-eqb (get_or f.sheet.rule_names k 0) (packed w) (x.rule.named ∙ ap packed (sym (same_true w r.rule.name e)))

@@ -1,0 +1,12 @@
+use borrow.Author.Tests.{lt-ltb, le-ltb}
+use borrow.Author.Rules.{rules}
+use Rattle.patterns.proofs.judge.after.Goals as goal
+
+-- `after` meets its contract.
+-- Assumes nothing.
+
+pub returns-then-i-n : goal.returns-then-i-n
+returns-then-i-n c = simp (lt-ltb _ _ c.if-i-n.true)
+
+pub returns-else-i-n : goal.returns-else-i-n
+returns-else-i-n c = simp (le-ltb _ _ c.if-i-n.false)

@@ -1,0 +1,13 @@
+use mathlib.Core.Path.{refl}
+use borrow.Author.Rules.{rules}
+use borrow.Author.Tests.{le-leb, lt-leb}
+use Rattle.patterns.proofs.judge.bracketed.Goals as goal
+
+-- `bracketed` meets its contract.
+-- Assumes nothing.
+
+pub returns-then-e-code : goal.returns-then-e-code
+returns-then-e-code c = rw (le-leb _ _ c.if-e-code.true) refl
+
+pub returns : goal.returns
+returns c = rw (lt-leb _ _ c.if-e-code.false) refl

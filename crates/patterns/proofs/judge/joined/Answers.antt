@@ -1,0 +1,11 @@
+use mathlib.Core.Path.{ap}
+use mathlib.Core.Bool.{Bool}
+use borrow.Author.Rules.{rules}
+use Rattle.patterns.specs.declared.judge.Judged.{Judged}
+use Rattle.patterns.proofs.judge.joined.Goals as goal
+
+-- `joined` meets its contract.
+-- Assumes nothing.
+
+pub returns : goal.returns
+returns c = ap {B = Judged} (λ (b : Bool). record { end = c.args.r.end; ok = b }) c.both-all.ensures
