@@ -1,9 +1,8 @@
+-- `begun` meets its contract: a test for each byte that begins a pattern.
+-- Assumes nothing.
 use borrow.Author.Tests.{eq-eqb, ne_eqb}
 use borrow.Author.Rules.{rules}
 use Rattle.code.proofs.count.begun.Goals as goal
-
--- `begun` meets its contract: a test for each byte that begins a pattern.
--- Assumes nothing.
 
 pub returns-then-b-eq97 : goal.returns-then-b-eq97
 returns-then-b-eq97 c = rw c.if-inside.false (simp (eq-eqb _ _ c.if-b-eq97.true))

@@ -1,3 +1,5 @@
+-- `patterns` meets its contract: what is counted so far and what is left to count make the whole.
+-- Assumes nothing.
 use mathlib.Core.Path.{◌≡◌}
 use mathlib.Core.Bool.{false}
 use Prim.Native.Nat.{◌+◌, ◌-◌, ◌≤◌}

@@ -8,9 +8,6 @@ use Rattle.code.specs.Count.{begins, patterns_from}
 use Rattle.code.proofs.CountLaws.{count_stop, count-more, count-end, more-small}
 use Rattle.code.proofs.count.patterns.Given as goal
 
--- `patterns` meets its contract: what is counted so far and what is left to count make the whole.
--- Assumes nothing.
-
 abbrev pub invariant-loop-i : goal.invariant-loop-i
 invariant-loop-i l = (l.i ≤ length l.code) × (l.n ≤ l.i) × (l.n + patterns_from l.inside (drop l.i l.code) ≡ patterns_from false l.code)
 

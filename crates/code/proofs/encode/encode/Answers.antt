@@ -1,3 +1,5 @@
+-- `encode` meets its contract: what is coded so far and the code of what is left make the whole; what is left falls.
+-- Assumes nothing.
 use mathlib.Core.Path.{refl}
 use borrow.Author.Rules.{rules}
 use Rattle.common.proofs.Bools.{or_right, or-none}

@@ -4,9 +4,6 @@ use Rattle.common.proofs.Bools.{or_right, or-none}
 use Rattle.code.proofs.EncodeLaws.{Going, going_start, going_shorter, going_more, going_end, going_full}
 use Rattle.code.proofs.encode.encode.Given as goal
 
--- `encode` meets its contract: what is coded so far and the code of what is left make the whole; what is left falls.
--- Assumes nothing.
-
 abbrev pub invariant-loop-c : goal.invariant-loop-c
 invariant-loop-c l = Going l.names l.text l.code l.len l.left l.unknown
 

@@ -1,12 +1,11 @@
+-- `front` meets its contract: a law of FrontLaws for each answer.
+-- Assumes nothing.
 use Rattle.lexer.proofs.NextLaws.{next_means}
 use Rattle.code.proofs.FrontLaws.{front_end, front_mark, front_other, front_letter, front_name}
 use native.Mathlib.Omega.{arith}
 use borrow.Author.Rules.{rules}
 use Rattle.code.proofs.IdLaws.{id_fits}
 use Rattle.code.proofs.encode.front.Goals as goal
-
--- `front` meets its contract: a law of FrontLaws for each answer.
--- Assumes nothing.
 
 pub overflow_add-result : goal.overflow_add-result
 overflow_add-result c = let h = id_fits _ _ _ c.id_of-i.ensures in omega arith

@@ -1,11 +1,10 @@
+-- `letter` meets its contract: the table is the list of the specification, and past its end stands 0.
+-- Assumes nothing.
 use mathlib.Core.Path.{refl, sym}
 use lib.ListN.{get_or-eq_default}
 use borrow.Author.Rules.{rules}
 use Rattle.code.specs.Code.{byte_of_kind, letters}
 use Rattle.code.proofs.encode.letter.Goals as goal
-
--- `letter` meets its contract: the table is the list of the specification, and past its end stands 0.
--- Assumes nothing.
 
 pub returns-then-k-lt22 : goal.returns-then-k-lt22
 unfolding byte_of_kind

@@ -1,3 +1,5 @@
+-- `event_line` meets its contract: the names read so far and what is left make the whole; what is left falls.
+-- Assumes nothing.
 use mathlib.Core.Path.{refl}
 use borrow.Author.Rules.{rules}
 use borrow.Author.Tests.{eq-eqb, ne_eqb}

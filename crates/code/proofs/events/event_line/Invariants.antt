@@ -5,9 +5,6 @@ use Rattle.common.proofs.Bools.{or_right, or-none}
 use Rattle.code.proofs.EventLaws.{Going, going_start, going_shorter, going_more, going_end, going_other, going_full}
 use Rattle.code.proofs.events.event_line.Given as goal
 
--- `event_line` meets its contract: the names read so far and what is left make the whole; what is left falls.
--- Assumes nothing.
-
 abbrev pub invariant-loop-roles : goal.invariant-loop-roles
 invariant-loop-roles l = Going l.names l.text l.roles l.len l.left l.unknown
 

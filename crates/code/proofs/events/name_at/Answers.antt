@@ -1,10 +1,9 @@
+-- `name_at` meets its contract: a law of PartLaws for each answer.
+-- Assumes nothing.
 use Rattle.lexer.proofs.NextLaws.{next_means}
 use Rattle.code.proofs.PartLaws.{at_end, at_mark, at_other, at_word, at_name}
 use borrow.Author.Rules.{rules}
 use Rattle.code.proofs.events.name_at.Goals as goal
-
--- `name_at` meets its contract: a law of PartLaws for each answer.
--- Assumes nothing.
 
 pub returns-then-k-eq-NAME : goal.returns-then-k-eq-NAME
 returns-then-k-eq-NAME c =

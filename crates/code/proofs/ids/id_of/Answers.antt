@@ -1,12 +1,11 @@
+-- `id_of` meets its contract: the place, where it is an id, or 127.
+-- Assumes nothing.
 use mathlib.Core.Path.{ap, ◌∙◌}
 use Prim.Native.Nat.{ℕ}
 use Rattle.names.specs.Place.{place}
 use Rattle.code.proofs.IdLaws.{id_place, id_past, id_none}
 use borrow.Author.Rules.{rules}
 use Rattle.code.proofs.ids.id_of.Goals as goal
-
--- `id_of` meets its contract: the place, where it is an id, or 127.
--- Assumes nothing.
 
 pub returns-then-at-lt127 : goal.returns-then-at-lt127
 returns-then-at-lt127 c =

@@ -1,10 +1,9 @@
+-- `after_first` meets its contract: each answer of `next` leaves what the lexeme leaves.
+-- Assumes nothing.
 use mathlib.Core.Path.{refl}
 use Rattle.code.proofs.LineLaws.{after_first_is}
 use borrow.Author.Rules.{rules}
 use Rattle.code.proofs.lines.after_first.Goals as goal
-
--- `after_first` meets its contract: each answer of `next` leaves what the lexeme leaves.
--- Assumes nothing.
 
 pub returns-in-End : goal.returns-in-End
 returns-in-End c = after_first_is _ _ _ (rw c.in-End.is at c.next.ensures) refl

@@ -1,3 +1,5 @@
+-- `few` meets its contract: the count over the body's code, held to the limit.
+-- Assumes nothing.
 use mathlib.Core.Path.{◌≡◌, refl, sym}
 use native.Mathlib.Omega.{arith}
 use lib.ListN.{length}
@@ -6,9 +8,6 @@ use borrow.Author.Rules.{rules}
 use borrow.Author.Tests.{le-leb, lt-leb}
 use Rattle.code.specs.Lines.{few_in}
 use Rattle.code.proofs.lines.few.Goals as goal
-
--- `few` meets its contract: the count over the body's code, held to the limit.
--- Assumes nothing.
 
 pub returns-then-len-gt126 : goal.returns-then-len-gt126
 unfolding few_in

@@ -1,11 +1,10 @@
+-- `leading` meets its contract: the word in front is the first token, packed.
+-- Assumes nothing.
 use mathlib.Core.Path.{ap, ◌∙◌}
 use Rattle.names.specs.Name.{packed}
 use borrow.Author.Rules.{rules}
 use Rattle.code.proofs.LineLaws.{front_word}
 use Rattle.code.proofs.lines.leading.Goals as goal
-
--- `leading` meets its contract: the word in front is the first token, packed.
--- Assumes nothing.
 
 pub returns : goal.returns
 returns c = c.pack.ensures ∙ ap packed (c.first_word.ensures ∙ front_word _)

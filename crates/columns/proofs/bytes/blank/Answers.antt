@@ -1,3 +1,5 @@
+-- `blank` meets its contract: the columns up to i are blank. What falls is the columns left.
+-- Assumes nothing.
 use Prim.Native.Nat.{◌-◌}
 use borrow.Author.Rules.{rules}
 use Rattle.columns.proofs.WriteLaws.{writes_length}

@@ -4,9 +4,6 @@ use Rattle.columns.proofs.WriteLaws.{writes_length}
 use Rattle.columns.proofs.BlankLaws.{Blank, blank_start, blank_more, blank_end, blank_full}
 use Rattle.columns.proofs.bytes.blank.Given as goal
 
--- `blank` meets its contract: the columns up to i are blank. What falls is the columns left.
--- Assumes nothing.
-
 abbrev pub invariant-loop-i : goal.invariant-loop-i
 invariant-loop-i l = Blank l.at l.to l.initial.out l.out l.i
 

@@ -1,9 +1,8 @@
+-- `put` meets its contract.
+-- Assumes nothing.
 use borrow.Author.Rules.{rules}
 use Rattle.columns.proofs.WriteLaws.{writes_full, writes_put}
 use Rattle.columns.proofs.bytes.put.Goals as goal
-
--- `put` meets its contract.
--- Assumes nothing.
 
 pub returns-then-out-at : goal.returns-then-out-at
 returns-then-out-at c = writes_full _ _ _ c.if-out-at.true

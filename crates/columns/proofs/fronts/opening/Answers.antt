@@ -1,9 +1,8 @@
+-- `opening` meets its contract: one text after the other.
+-- Assumes nothing.
 use borrow.Author.Rules.{rules}
 use Rattle.columns.proofs.WriteLaws.{writes_then}
 use Rattle.columns.proofs.fronts.opening.Goals as goal
-
--- `opening` meets its contract: one text after the other.
--- Assumes nothing.
 
 pub returns : goal.returns
 returns c =

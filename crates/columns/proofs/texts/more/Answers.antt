@@ -1,3 +1,5 @@
+-- `more` meets its contract: the names before i are written. What falls is the names left.
+-- Assumes nothing.
 use mathlib.Core.Path.{ap}
 use mathlib.Core.List.{List, map}
 use Prim.Native.Nat.{ℕ, ◌-◌, ◌≤◌}

@@ -12,9 +12,6 @@ use Rattle.columns.proofs.WriteLaws.{writes_none, writes_same, writes_length}
 use Rattle.columns.proofs.WordLaws.{writes_more}
 use Rattle.columns.proofs.texts.more.Given as goal
 
--- `more` meets its contract: the names before i are written. What falls is the names left.
--- Assumes nothing.
-
 abbrev pub invariant-loop-i : goal.invariant-loop-i
 invariant-loop-i l = (l.i ≤ length l.names) × Writes l.at (before (map unpacked (take l.i l.names))) l.initial.out l.out l.next
 

@@ -1,3 +1,5 @@
+-- `text` meets its contract: the bytes before i are written. What falls is the bytes left.
+-- Assumes nothing.
 use Prim.Native.Nat.{◌-◌, ◌≤◌}
 use native.Mathlib.Omega.{arith}
 use lib.ListN.{length, take}

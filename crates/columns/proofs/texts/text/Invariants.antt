@@ -7,9 +7,6 @@ use Rattle.columns.specs.Writing.{Writes}
 use Rattle.columns.proofs.WriteLaws.{writes_none, writes_same, writes_length, writes_byte}
 use Rattle.columns.proofs.texts.text.Given as goal
 
--- `text` meets its contract: the bytes before i are written. What falls is the bytes left.
--- Assumes nothing.
-
 abbrev pub invariant-loop-i : goal.invariant-loop-i
 invariant-loop-i l = (l.i ≤ length l.bytes) × Writes l.at (take l.i l.bytes) l.initial.out l.out l.next
 

@@ -1,3 +1,5 @@
+-- `word` meets its contract: the columns before i are written, and none is a space. What falls is the columns left.
+-- Assumes nothing.
 use Prim.Native.Nat.{◌-◌}
 use borrow.Author.Rules.{rules}
 use Rattle.columns.proofs.WriteLaws.{writes_length}

@@ -4,9 +4,6 @@ use Rattle.columns.proofs.WriteLaws.{writes_length}
 use Rattle.columns.proofs.WordLaws.{Spelling, spelling_start, spelling_more, spelling_space, spelling_end}
 use Rattle.columns.proofs.texts.word.Given as goal
 
--- `word` meets its contract: the columns before i are written, and none is a space. What falls is the columns left.
--- Assumes nothing.
-
 abbrev pub invariant-loop-i : goal.invariant-loop-i
 invariant-loop-i l = Spelling l.name l.at l.initial.out l.out l.next l.i
 

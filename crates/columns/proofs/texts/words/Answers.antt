@@ -1,9 +1,8 @@
+-- `words` meets its contract: the first name, and the others with a space before each.
+-- Assumes nothing.
 use borrow.Author.Rules.{rules}
 use Rattle.columns.proofs.WordLaws.{writes_spaced, spaced-none}
 use Rattle.columns.proofs.texts.words.Goals as goal
-
--- `words` meets its contract: the first name, and the others with a space before each.
--- Assumes nothing.
 
 pub returns-then-names-eq0 : goal.returns-then-names-eq0
 returns-then-names-eq0 c = spaced-none c.args.names.now _ _ c.if-names-eq0.true

@@ -1,3 +1,4 @@
+-- `ends` answers whether no token is left.
 use mathlib.Core.Path.{sym}
 use mathlib.Core.Logic.{⊎_elim}
 use native.Mathlib.Omega.{arith}
@@ -5,8 +6,6 @@ use Rattle.lexer.proofs.NextLaws.{next_means}
 use Rattle.grammar.proofs.LeafLaws.{ends-yes, ends-no}
 use borrow.Author.Rules.{rules}
 use Rattle.grammar.proofs.leaves.ends.Goals as goal
-
--- `ends` answers whether no token is left.
 
 pub returns-in-End : goal.returns-in-End
 returns-in-End c = sym (ends-yes _ c.next.result (next_means _ _ c.next.ensures) c.in-End.is)

@@ -1,8 +1,7 @@
+-- `is_role` answers whether the parser of role lines reads the whole text.
 use Rattle.grammar.proofs.AnswerLaws.{whole-left, whole_bad}
 use borrow.Author.Rules.{rules}
 use Rattle.grammar.proofs.lines.is_role.Goals as goal
-
--- `is_role` answers whether the parser of role lines reads the whole text.
 
 pub returns-in-Left : goal.returns-in-Left
 returns-in-Left c =

@@ -1,9 +1,8 @@
+-- `line_kind` answers which kind of line the text says: a rule line, else a role line, else neither.
 use mathlib.Core.Path.{sym, ◌∙◌}
 use Rattle.grammar.proofs.Shapes.{kind-rule, kind-role, kind_neither}
 use borrow.Author.Rules.{rules}
 use Rattle.grammar.proofs.lines.line_kind.Goals as goal
-
--- `line_kind` answers which kind of line the text says: a rule line, else a role line, else neither.
 
 pub returns-then-is_rule : goal.returns-then-is_rule
 returns-then-is_rule c = sym (kind-rule _ (sym c.is_rule.ensures ∙ c.if-is_rule.true))

@@ -1,10 +1,9 @@
+-- `rule` answers as the parser of rule lines does at each depth: the head, the past, the tail.
 use Rattle.grammar.proofs.LevelLaws.{part_shorter, chain, chain_bad, mapped, at_depth, at_depths}
 use Rattle.grammar.specs.Parser.{tail_of, rule_of, past_of}
 use native.Mathlib.Omega.{arith}
 use borrow.Author.Rules.{rules}
 use Rattle.grammar.proofs.lines.rule.Goals as goal
-
--- `rule` answers as the parser of rule lines does at each depth: the head, the past, the tail.
 
 pub returns-in_default : goal.returns-in_default
 unfolding rule_of

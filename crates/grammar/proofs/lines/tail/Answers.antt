@@ -1,10 +1,9 @@
+-- `tail` answers as the parser of what follows a rule's past does at each depth, one reader after another.
 use Rattle.grammar.proofs.LevelLaws.{part_shorter, chain, chain_bad, mapped, at_depth, at_depths}
 use Rattle.grammar.specs.Parser.{tail_of, pattern_of}
 use native.Mathlib.Omega.{arith}
 use borrow.Author.Rules.{rules}
 use Rattle.grammar.proofs.lines.tail.Goals as goal
-
--- `tail` answers as the parser of what follows a rule's past does at each depth, one reader after another.
 
 pub returns-in_default : goal.returns-in_default
 unfolding tail_of

@@ -1,5 +1,4 @@
 -- `stars` leaves what follows the stars in front. What falls is the unread length.
-
 use Rattle.grammar.proofs.LevelLaws.{part_shorter}
 use Rattle.grammar.proofs.LevelPasts.{stars_stop, stars_more}
 use borrow.Author.Rules.{rules}

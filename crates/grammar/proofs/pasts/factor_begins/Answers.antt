@@ -1,3 +1,4 @@
+-- `factor_begins` answers whether the next token is <, (, [ or the word any.
 use mathlib.Core.Path.{sym}
 use mathlib.Core.Logic.{⊎_elim}
 use native.Mathlib.Omega.{arith}
@@ -6,8 +7,6 @@ use Rattle.lexer.proofs.NextLaws.{next_means}
 use Rattle.grammar.proofs.LeafLaws.{begins-mark, begins-word, begins-none}
 use borrow.Author.Rules.{rules}
 use Rattle.grammar.proofs.pasts.factor_begins.Goals as goal
-
--- `factor_begins` answers whether the next token is <, (, [ or the word any.
 
 pub returns-then-m-eq60 : goal.returns-then-m-eq60
 returns-then-m-eq60 c =

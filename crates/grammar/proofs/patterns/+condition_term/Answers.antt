@@ -1,5 +1,4 @@
 -- `condition` and `term` answer as their parsers do. What falls is twice the unread length and the level: condition 1, term 0.
-
 use Rattle.grammar.proofs.LevelLaws.{part_shorter}
 use Rattle.grammar.proofs.LevelPatterns.{condition_bad, condition_term, condition_or, term-not, term-simple, term_bad, term-inside}
 use native.Mathlib.Omega.{arith}

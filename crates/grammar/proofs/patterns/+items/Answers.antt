@@ -1,5 +1,4 @@
 -- `items` answers as the parser of at most k items does. What falls is k.
-
 use Rattle.grammar.proofs.LevelPatterns.{items-full, items-close, items_more, items_open}
 use native.Mathlib.Omega.{arith}
 use borrow.Author.Rules.{rules}

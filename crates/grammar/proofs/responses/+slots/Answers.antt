@@ -1,5 +1,4 @@
 -- `slots` answers as the parser of at most k slots does. What falls is k.
-
 use Rattle.grammar.proofs.LevelResponses.{slots_full, slots_close, slots_more, slots_bad}
 use native.Mathlib.Omega.{arith}
 use borrow.Author.Rules.{rules}

@@ -1,8 +1,7 @@
+-- `response` answers as its parser does, one law for each of its four words and one for none of them.
 use Rattle.grammar.proofs.LevelResponses.{response-pass, response-hold, response-send, response-anew, response_bad}
 use borrow.Author.Rules.{rules}
 use Rattle.grammar.proofs.responses.response.Goals as goal
-
--- `response` answers as its parser does, one law for each of its four words and one for none of them.
 
 pub returns-in-Left : goal.returns-in-Left
 returns-in-Left c = response-pass _ _ (rw c.in-Left.is at c.word_at.ensures)

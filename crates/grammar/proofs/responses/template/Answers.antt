@@ -1,8 +1,7 @@
+-- `template` answers as its parser does: slots after <.
 use Rattle.grammar.proofs.LevelResponses.{template-yes, template-no}
 use borrow.Author.Rules.{rules}
 use Rattle.grammar.proofs.responses.template.Goals as goal
-
--- `template` answers as its parser does: slots after <.
 
 pub returns-in-Left : goal.returns-in-Left
 returns-in-Left c =

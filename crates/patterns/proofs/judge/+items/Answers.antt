@@ -1,6 +1,5 @@
 -- `items` meets its contract: a law of ItemLaws for each way out. What falls is the code left.
 -- Assumes nothing.
-
 use Prim.Native.Nat.{◌-◌}
 use lib.ListN.{length}
 use Rattle.patterns.proofs.ItemLaws.{no_items, closed, starred, short, unders, sames}

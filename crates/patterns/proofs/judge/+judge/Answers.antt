@@ -1,6 +1,5 @@
 -- `judge` meets its contract: a law of TermLaws, and one of PatternLaws, for each way out. What falls is the code left, and then whole.
 -- Assumes nothing.
-
 use mathlib.Core.Path.{refl, ap}
 use Prim.Native.Nat.{◌-◌, ◌+◌, ◌*◌}
 use lib.ListN.{length}

@@ -1,9 +1,8 @@
+-- `after` meets its contract.
+-- Assumes nothing.
 use borrow.Author.Tests.{lt-ltb, le-ltb}
 use borrow.Author.Rules.{rules}
 use Rattle.patterns.proofs.judge.after.Goals as goal
-
--- `after` meets its contract.
--- Assumes nothing.
 
 pub returns-then-i-n : goal.returns-then-i-n
 returns-then-i-n c = simp (lt-ltb _ _ c.if-i-n.true)

@@ -1,10 +1,9 @@
+-- `bracketed` meets its contract.
+-- Assumes nothing.
 use mathlib.Core.Path.{refl}
 use borrow.Author.Rules.{rules}
 use borrow.Author.Tests.{le-leb, lt-leb}
 use Rattle.patterns.proofs.judge.bracketed.Goals as goal
-
--- `bracketed` meets its contract.
--- Assumes nothing.
 
 pub returns-then-e-code : goal.returns-then-e-code
 returns-then-e-code c = rw (le-leb _ _ c.if-e-code.true) refl

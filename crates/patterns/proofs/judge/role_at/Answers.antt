@@ -1,10 +1,9 @@
+-- `role_at` meets its contract: a test for each way out.
+-- Assumes nothing.
 use borrow.Author.Tests.{lt-ltb, le-ltb, le-leb, lt-leb}
 use Rattle.patterns.specs.Judged.{role_at}
 use borrow.Author.Rules.{rules}
 use Rattle.patterns.proofs.judge.role_at.Goals as goal
-
--- `role_at` meets its contract: a test for each way out.
--- Assumes nothing.
 
 pub returns-then-byte-lt128 : goal.returns-then-byte-lt128
 unfolding role_at

@@ -1,3 +1,5 @@
+-- `below` meets its contract: going up keeps the answer, and what falls is the role.
+-- Assumes nothing.
 use mathlib.Core.Path.{◌≡◌, sym, ◌∙◌}
 use Prim.Native.Nat.{◌<◌}
 use borrow.Author.Rules.{rules}

@@ -5,9 +5,6 @@ use Rattle.patterns.specs.Table.{below_in}
 use Rattle.patterns.proofs.TableLaws.{here, out, stop, up}
 use Rattle.patterns.proofs.roles.below.Given as goal
 
--- `below` meets its contract: going up keeps the answer, and what falls is the role.
--- Assumes nothing.
-
 abbrev pub invariant-loop-at : goal.invariant-loop-at
 invariant-loop-at l = (l.at < 256) × (below_in l.parents l.r l.p ≡ below_in l.parents l.at l.p)
 

@@ -5,11 +5,7 @@ use Prim.Native.Nat.{ℕ}
 use borrow.Author.Rules.{rules}
 use lib.ListN.{replicate}
 use Rattle.follow.specs.State.{sheet_with}
-use Rattle.follow.proofs.state.new.Statement.{statement}
-use Rattle.follow.proofs.state.new.Tie as tie
+use Rattle.follow.proofs.state.new.Goals as goal
 
-returns : tie.Need-returns
+pub returns : goal.returns
 returns c = ap (λ (n : ℕ). record { sheet = sheet_with n; positions = replicate 32 0 }) c.pack.ensures
-
-pub new_spec : {M : Type 1} → statement M
-new_spec = tie.close (tie.spec (λ c. search rules) (λ c κs. search rules) (λ c. search rules) returns)
