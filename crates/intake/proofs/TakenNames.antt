@@ -83,6 +83,8 @@ module _ (f : State) (z : Sized f) (t : PositionMachine) (rep : Represents f t) 
 
   rule-named : (k : ℕ) (l : List PositionRule) (w : Name) → NameWord w → k ≤ length f.sheet.rule_names → Rules f k l → is_named k f.sheet.rule_names (packed w) ≡ is_rule (names_of l) w
   rule-named zero [] w a m rules-none = named_none f.sheet.rule_names (packed w)
+  rule-named zero (r ∷ l) w a m x6 = elim x6 [ ]
+  rule-named (suc k) [] w a m x5 = elim x5 [ ]
   rule-named (suc k) (r ∷ l) w a m (rules-more x xs) =
       named_more f.sheet.rule_names (packed w) k m ∙ ap₂ (λ (p q : Bool). p || q) (same_test _ _ (down, up)) (rule-named k l w a (omega arith) xs)
     where
@@ -90,8 +92,6 @@ module _ (f : State) (z : Sized f) (t : PositionMachine) (rep : Represents f t) 
       down e =
           let q : r.rule.name ≡ w = word_same r.rule.name w x.rule.word a (sym x.rule.named ∙ eqb-true (get_or f.sheet.rule_names k 0) (packed w) e) in
           subst (λ (v : Name). same w v ≡ true) (sym q) (same_refl w)
-  rule-named zero (r ∷ l) w a m x6 = elim x6 [ ]
-  rule-named (suc k) [] w a m x5 = elim x5 [ ]
 
       up : same w r.rule.name ≡ true → eqb (get_or f.sheet.rule_names k 0) (packed w) ≡ true
       up e = eq-eqb (get_or f.sheet.rule_names k 0) (packed w) (x.rule.named ∙ ap packed (sym (same_true w r.rule.name e)))
