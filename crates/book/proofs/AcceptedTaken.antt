@@ -11,7 +11,7 @@ use borrow.Author.Tests.{eq-eqb}
 use Rattle.common.specs.All.{All}
 use Rattle.common.proofs.AllLaws.{all_append, all_left, all_right, all_map}
 use Rattle.frame.specs.Record.{line_byte}
-use Rattle.intake.specs.Asked.{Asked, asks_role, asks_rule}
+use Rattle.intake.specs.Asked.{Asked, refused_by, asks_role, asks_rule, asks_event}
 use Rattle.intake.specs.Machine.{names_of, with_role, asked_of}
 use Rattle.intake.specs.Rows.{RecordRow, row_2, row_3, row_4_line, row_4_event, row_5_role, row_5_rule, row_6_role, row_6_rule, row_6_event, row_7, row_8_role, row_8_rule, takes_role, takes_rule, takes_event}
 use Rattle.intake.proofs.Rows.{asked-row}
@@ -85,6 +85,8 @@ module _ (t : PositionMachine) (r : List ℕ) (h : Lined r) (z : Zero (machine_s
       go : (a : Asked) → Declares r a → ((n p : Name) → a ≡ asks_role n p → length t.rules ≡ 0) → take_asked t a ≡ some (machine_next t (granted t.roles (map machine_duty t.rules) a))
       go (asks_role n p) (role-line k) f = ap (λ (q : Bool). cond q (some (with_role t n p)) none) (eq-eqb (length t.rules) 0 (f n p refl))
       go (asks_rule x) (rule-line k) f = refl
+      go (refused_by _) x3 f = elim x3 [ ]
+      go (asks_event _) x4 f = elim x4 [ ]
 
 -- LINES
 

@@ -46,10 +46,10 @@ followed_same rs p m l n (followed_more {m' = m'} {e = e} {l = l'} f h) k =
 
 -- "the past matches when some set mark may end such a list", the marks being those given, followed over the events since
 pub matched_by_marks : (rs : Roles) (p : Past) (m : ℕ) (l : List Event) → (matched_since rs p (given m) l ≡ true) ↔ ((n : Positions) × Followed rs p (has_at m) l n × Matched (past_meaning p) n)
-matched_by_marks rs p m l = (λ e. (steps (meets (order_of same rs)) (past_meaning p) (has_at m) l, steps_followed rs p (has_at m) l, (matches_now_iff (past_meaning p) _).0 e), back)
+matched_by_marks rs p m l = (λ e. (steps (meets (order_of same rs)) (past_meaning p) (has_at m) l, steps_followed rs p (has_at m) l, (matches_now_iff (past_meaning p) (steps (meets (order_of same rs)) (past_meaning p) (has_at m) l)).0 e), back)
   where
     back : (n : Positions) × Followed rs p (has_at m) l n × Matched (past_meaning p) n → matched_since rs p (given m) l ≡ true
-    back (n, h, k) = (matches_now_iff (past_meaning p) _).1 (k.0, sym (followed_same rs p (has_at m) l n h k.0) ∙ k.1, k.2)
+    back (n, h, k) = (matches_now_iff (past_meaning p) (steps (meets (order_of same rs)) (past_meaning p) (has_at m) l)).1 (k.0, sym (followed_same rs p (has_at m) l n h k.0) ∙ k.1, k.2)
 
 -- BY NUMBERS
 

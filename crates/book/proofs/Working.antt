@@ -180,6 +180,8 @@ fill_none e k xs g = (found k xs g, lost k xs g)
     found (suc k) (place n ∷ xs) g q = ⊎_elim (λ z. let h = (at_none e (n - 1)).0 z in let p = g.0.0 in beyond_here (omega arith)) (λ z. beyond_later (found k xs g.1 z)) (cons_none (get_elem? e (n - 1)) (fill e xs) q)
 
     lost : (k : ℕ) (xs : Template Name) → ValidSlots k xs → Beyond e xs → fill e xs ≡ none
+    lost zero [] g b = elim b [ ]
+    lost (suc k) [] g b = elim b [ ]
     lost zero (x ∷ xs) g b = absurd g
     lost (suc k) (place n ∷ xs) g (beyond_here h) = none_first (get_elem? e (n - 1)) (fill e xs) ((at_none e (n - 1)).1 (omega arith))
     lost (suc k) (x ∷ xs) g (beyond_later b) = none_rest (fill_slot e x) (fill e xs) (lost k xs g.1 b)

@@ -1,0 +1,7 @@
+-- `begin` meets its contract.
+-- Assumes nothing.
+use borrow.Author.Rules.{rules}
+use Rattle.chain.proofs.run.begin.Goals as goal
+
+pub returns : goal.returns
+returns c = simp (c.capped-all.ensures.is, c.roles_held-held.ensures.is)
