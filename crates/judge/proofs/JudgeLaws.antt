@@ -27,6 +27,8 @@ abbrev Found : State → List PositionRule → ℕ → Type 0
 Found f l i = (x : Rule) × RuleIs f.sheet i x × (rule_numbered l i ≡ some x)
 
 rule_at_lem : (f : State) (k : ℕ) (l : List PositionRule) (i : ℕ) → Rules f k l → i < k → Found f l i
+rule_at_lem f zero (y ∷ l) i x4 h = elim x4 [ ]
+rule_at_lem f (suc k) [] i x4 h = elim x4 [ ]
 rule_at_lem f zero [] i rules-none h = absurd (omega arith)
 rule_at_lem f (suc k) (y ∷ l) i (rules-more is rest) h = ⊎_elim (λ m. before (rule_at_lem f k l i rest m) m) latest (split i k (omega arith))
   where

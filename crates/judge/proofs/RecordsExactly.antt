@@ -61,11 +61,14 @@ module _ (rs : Roles) (p : Past) where
       go (refusal v) k more = inr (refused-first k)
 
   pub acts_say : (l : List (List ℕ)) (es : List Event) → Acts rs l es → Say rs l es
+  acts_say [] (e ∷ es) x'' = elim x'' [ ]
+  acts_say (r ∷ l) [] x3 = elim x3 [ ]
   acts_say [] [] acts-none = say_none
   acts_say (r ∷ l) (e ∷ es) (acts-more a h) = say_more (act_answer rs r e a) (acts_say l es h)
 
   pub record_refused_number : (es : List Event) (l : List (List ℕ)) (k : ℕ) → FirstRefused rs l k → number_of (judge_records rs p es l) ≡ k
   unfolding judge_records
+  record_refused_number es [] k x' = elim x' [ ]
   record_refused_number es (r ∷ l) k (refused-first h) =
       let d = refusal-answer rs r k h in
       ap (λ (x : RecordAnswer). number_of (on_answer x (λ e. judge_records rs p (es ++ (e ∷ [])) l))) d.1 ∙ d.2
@@ -74,6 +77,7 @@ module _ (rs : Roles) (p : Past) where
 
 -- a record's refusal has a number that is not 0
 pub refused_number_above : (rs : Roles) (l : List (List ℕ)) (k : ℕ) → FirstRefused rs l k → 0 < k
+refused_number_above rs [] k x' = elim x' [ ]
 refused_number_above rs (r ∷ l) k (refused-first (record_3 h)) = omega arith
 refused_number_above rs (r ∷ l) k (refused-first (record_3_line h)) = omega arith
 refused_number_above rs (r ∷ l) k (refused-first (record_4 f h)) = omega arith

@@ -27,6 +27,7 @@ none_at (x ∷ l) i h = not-newest x l i (λ e. omega arith) ∙ none_at l i (om
 
 -- a rule of a number is one of those declared
 pub numbered_below : (l : List Rule) (i : ℕ) (r : Rule) → Numbered l i r → i < length l
+numbered_below [] i r x' = elim x' [ ]
 numbered_below (x ∷ l) i r (newest e) = omega arith
 numbered_below (x ∷ l) i r (older h) = let k = numbered_below l i r h in omega arith
 
@@ -48,6 +49,7 @@ standing (x ∷ l) i = go (standing l i) (eqb i (length l)) refl
     go h false e = more (rule_numbered l i) (eqb-false i (length l) e) h
 
 pub rule-numbered : (l : List PositionRule) (i : ℕ) (r : Rule) → Numbered (rules_of l) i r → rule_numbered l i ≡ some r
+rule-numbered [] i r x' = elim x' [ ]
 rule-numbered (x ∷ l) i r (newest e) = is-newest x l i (e ∙ length-map l (λ y. y.rule))
 rule-numbered (x ∷ l) i r (older h) =
     let k = numbered_below (rules_of l) i r h in

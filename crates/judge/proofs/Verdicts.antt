@@ -26,6 +26,8 @@ module _ (rs : Roles) (p : Past) where
   -- where the records say events, the answer is the matcher's
   pub said_judged : (es : List Event) (l : List (List ℕ)) (fs : List Event) → Say rs l fs → judge_records rs p es l ≡ cond (matches (meets (order_of same rs)) (past_meaning p) (es ++ fs)) Yes No
   unfolding judge_records
+  said_judged es [] (e ∷ fs) x'' = elim x'' [ ]
+  said_judged es (r ∷ l) [] x3 = elim x3 [ ]
   said_judged es [] [] say_none = ap (λ (k : List Event). cond (matches (meets (order_of same rs)) (past_meaning p) k) Yes No) (sym (nil es))
     where
       nil : (k : List Event) → k ++ [] ≡ k

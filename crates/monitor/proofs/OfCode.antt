@@ -89,6 +89,10 @@ rule_marked f rs h i r x y e q =
     record { marks = marks; matched = rw (← ends_same f.sheet i r.rule y.rule, e) (marks_match rs past small x.origin (drop x.start h) (get_or f.positions i 0) marks) }
 
 marks_in_lem : (f : State) (rs : Roles) (h : List Event) (n : ℕ) (fs : List PositionRule) (xs : List Entry) → Rules f n fs → Marked rs h fs xs → MarksIn f rs h n xs
+marks_in_lem f rs h zero [] (x ∷ xs) _ x8 = elim x8 [ ]
+marks_in_lem f rs h zero (r ∷ fs) xs x5 _ = elim x5 [ ]
+marks_in_lem f rs h (suc n) [] xs x5 _ = elim x5 [ ]
+marks_in_lem f rs h (suc n) (r ∷ fs) [] _ x9 = elim x9 [ ]
 marks_in_lem f rs h zero [] [] rules-none marked_none = marks-none
 marks_in_lem f rs h (suc n) (r ∷ fs) (x ∷ xs) (rules-more i is) (marked_more e q m) = marks-more (rule_marked f rs h n r x i e q) (marks_in_lem f rs h n fs xs is m)
 

@@ -1,0 +1,13 @@
+-- `role_names` meets its contract.
+-- Assumes nothing.
+use mathlib.Core.Path.{◌≡◌}
+use lib.ListN.{length}
+use Rattle.monitor.proofs.EventLaws.{names_read}
+use borrow.Author.Rules.{rules}
+use Rattle.monitor.proofs.events.role_names.Goals as goal
+
+pub returns : goal.returns
+returns c =
+    let e = c.args.event in
+    let h : length e.roles ≡ 4 = search rules in
+    names_read _ e _ _ _ _ h c.role_name.ensures c.role_name-2.ensures c.role_name-3.ensures c.role_name-4.ensures
