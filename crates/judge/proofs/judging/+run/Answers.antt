@@ -19,7 +19,7 @@ slice_bounds-rule_step-end t c = sym (length-take-le c.roles_held-held.result _ 
 pub run-requires : goal.run-requires
 run-requires t c =
     let l : length c.rest-left.result.now < length c.args.records.now = rest-shorter c.args.records.now c.rest-left.result.now c.if-n-lt-RECORD_SIZE.false c.rest-left.ensures in
-    let m : length c.args.records.now ≡ t = c.requires.0 in
+    let m : length c.args.records.now ≡ t = c.decreases in
     let n : length c.rest-left.result.now < t = omega (arith, l, m) in
     (n, search rules)
 
