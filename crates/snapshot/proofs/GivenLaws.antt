@@ -110,6 +110,8 @@ module _ (f : State) (s after : List ℕ) where
   -- every record gives marks: the rules with them
   marks-some : (k : ℕ) (l : List PositionRule) → Rules f k l → ((i : ℕ) → i < k → mark i ≡ some (get_or after i 0))
       → (xs : List PositionRule) × (read_marks l (in_order (records_of k s)) ≡ some xs) × Rules given k xs
+  marks-some zero (x ∷ l) x5 h = elim x5 [ ]
+  marks-some (suc n) [] x4 h = elim x4 [ ]
   marks-some zero [] rules-none h = ([], refl, rules-none)
   marks-some (suc n) (x ∷ l) (rules-more y ys) h =
       let r = marks-some n l ys (λ i m. h i (omega arith)) in
@@ -122,6 +124,8 @@ module _ (f : State) (s after : List ℕ) where
 
   -- a record gives none
   marks-none : (k : ℕ) (l : List PositionRule) → Rules f k l → (i : ℕ) → i < k → mark i ≡ none → read_marks l (in_order (records_of k s)) ≡ none
+  marks-none zero (x ∷ l) x7 i h e = elim x7 [ ]
+  marks-none (suc n) [] x5 i h e = elim x5 [ ]
   marks-none zero [] rules-none i h e = absurd (omega arith)
   marks-none (suc n) (x ∷ l) (rules-more y ys) i h e =
       ap (read_marks (x ∷ l)) (records_back n s)

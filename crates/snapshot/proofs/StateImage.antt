@@ -61,6 +61,8 @@ module _ (f : State) where
   -- records by the rules' places are records by the rules, in declared order
   rules-written : (h : ℕ → List ℕ) (g : PositionRule → List ℕ) → ((i : ℕ) (x : PositionRule) → PositionRuleIs f i x → h i ≡ g x)
       → (n : ℕ) (l : List PositionRule) → Rules f n l → first_of h n ≡ joined (map g (in_order l))
+  rules-written h g e zero (x ∷ l) x3 = elim x3 [ ]
+  rules-written h g e (suc n) [] x3 = elim x3 [ ]
   rules-written h g e zero [] rules-none = refl
   rules-written h g e (suc n) (x ∷ l) (rules-more is rest) =
       ap₂ (λ (u v : List ℕ). u ++ v) (rules-written h g e n l rest) (e n x is)

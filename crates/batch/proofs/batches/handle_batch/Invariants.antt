@@ -1,0 +1,16 @@
+use mathlib.Core.Path.{◌≡◌, sym, ◌∙◌}
+use mathlib.Core.Bool.{true}
+use Prim.Native.Nat.{◌-◌}
+use borrow.Author.Rules.{rules}
+use borrow.Author.Tests.{not-true, not-false}
+use native.Mathlib.Omega.{arith}
+use lib.ListN.{length}
+use Rattle.book.specs.Batches.{batch_fits}
+use Rattle.batch.proofs.BatchLaws.{Progress, begun, record_there, room_there, room_same, called, finished, turned_away_lem}
+use Rattle.batch.proofs.batches.handle_batch.Given as goal
+
+abbrev pub invariant-loop-at : goal.invariant-loop-at
+invariant-loop-at l = (batch_fits l.records l.initial.replies ≡ true) × Progress l.initial.after l.records l.initial.replies l.after l.replies l.at l.to
+
+abbrev pub decreases-loop-at : goal.decreases-loop-at
+decreases-loop-at l = length l.records - l.at

@@ -1,0 +1,12 @@
+use Prim.Native.Nat.{◌-◌}
+use borrow.Author.Rules.{rules}
+use borrow.Author.Tests.{not-true, not-false}
+use Rattle.snapshot.specs.Reading.{mark_at}
+use Rattle.snapshot.proofs.TakingLaws.{Going, start, onward, finish, turned, full}
+use Rattle.snapshot.proofs.restoring.take_marks.Given as goal
+
+abbrev pub invariant-loop-i : goal.invariant-loop-i
+invariant-loop-i l = Going (mark_at l.rule_names l.rows l.records) l.count l.initial.positions l.positions l.i
+
+abbrev pub decreases-loop-i : goal.decreases-loop-i
+decreases-loop-i l = l.count - l.i

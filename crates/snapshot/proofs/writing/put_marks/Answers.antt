@@ -1,0 +1,25 @@
+-- `put_marks` meets its contract: the records before i are written. What falls is the records left.
+-- Assumes nothing.
+use mathlib.Core.Path.{ap₂, ◌∙◌}
+use Rattle.names.specs.Unpacked.{unpacked}
+use Rattle.book.specs.Images.{digits, mark_record}
+use Prim.Native.Nat.{ℕ, ◌-◌}
+use borrow.Author.Rules.{rules}
+use Rattle.columns.proofs.WriteLaws.{writes_length}
+use Rattle.snapshot.specs.Written.{marks_at}
+use Rattle.snapshot.proofs.WrittenLaws.{Going, going_start, going_more, going_end}
+use Rattle.snapshot.proofs.writing.put_marks.Goals as goal
+
+pub loop-i-init : goal.loop-i-init
+loop-i-init c = going_start _ _ _ _
+
+pub loop-i-preserved : goal.loop-i-preserved
+loop-i-preserved c =
+    let e = c.mark_record-line.ensures ∙ ap₂ (λ (x y : ℕ). mark_record digits (unpacked x) y) c.number_at-name.ensures c.number_at-marks.ensures in
+    going_more c.loop-i.invariant c.loop-i-test.true e c.text-next.ensures
+
+pub shape_of-out : goal.shape_of-out
+shape_of-out c = writes_length c.loop-i.invariant.written
+
+pub returns : goal.returns
+returns c = going_end c.loop-i.invariant c.loop-i-test.false
