@@ -22,6 +22,14 @@ use Rattle.stand.specs.Operations.{OperatedAs, by_call, by_batch, by_keep, by_re
 
 -- one operation: the machine's result, and the monitor left represents the machine left
 operated-represents : (m m' : State) (o : Operation) (r : Result) (t : PositionMachine) → Represents m t → OperatedAs m o r m' → (r ≡ (machine_operate t o).1) × Represents m' (machine_operate t o).0
+operated-represents m m' (call c) (kept n k b) t rep x4 = elim x4 [ ]
+operated-represents m m' (call c) (replaced n) t rep x5 = elim x5 [ ]
+operated-represents m m' (batch s b) (kept n k _) t rep x5 = elim x5 [ ]
+operated-represents m m' (batch s b) (replaced n) t rep x5 = elim x5 [ ]
+operated-represents m m' (keep lent) (answered a) t rep x5 = elim x5 [ ]
+operated-represents m m' (keep lent) (replaced n) t rep x6 = elim x6 [ ]
+operated-represents m m' (restore image) (answered a) t rep x6 = elim x6 [ ]
+operated-represents m m' (restore image) (kept n k b) t rep x7 = elim x7 [ ]
 operated-represents m m' (call c) (answered a) t rep (by_call h) = let k = call-represents m m' c a t rep h in (ap answered k.0, k.1)
 operated-represents m m' (batch s b) (answered a) t rep (by_batch h) = let k = batch-represents m m' s b a t rep h in (ap answered k.0, k.1)
 operated-represents m m' (keep lent) (kept n k b) t rep (by_keep h) = keep-represents m m' lent n k b t rep h
