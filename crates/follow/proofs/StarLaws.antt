@@ -6,7 +6,7 @@ use Prim.Native.Nat.{ℕ, zero, suc, ◌+◌, ◌≤◌}
 use native.Mathlib.Omega.{arith}
 use lib.ListN.{length, get_or, drop, replicate}
 use Rattle.patterns.proofs.Here.{none, here, first}
-use Rattle.positions.specs.Summaries.{summary, star_summary}
+use Rattle.positions.specs.Summaries.{star_summary}
 use Rattle.positions.specs.declared.summaries.Summary.{Summary}
 use Rattle.follow.specs.Walked.{again, AfterFactor, StarsRead}
 use Rattle.follow.specs.declared.walk.Walk.{Walk}

@@ -1,7 +1,6 @@
 -- `begun` meets its contract: a test for each byte that begins a pattern.
 -- Assumes nothing.
 use borrow.Author.Tests.{eq-eqb, ne_eqb}
-use borrow.Author.Rules.{rules}
 use Rattle.code.proofs.count.begun.Goals as goal
 
 pub returns-then-b-eq97 : goal.returns-then-b-eq97

@@ -1,12 +1,8 @@
 -- `patterns` meets its contract: what is counted so far and what is left to count make the whole.
 -- Assumes nothing.
-use mathlib.Core.Path.{◌≡◌}
-use mathlib.Core.Bool.{false}
-use Prim.Native.Nat.{◌+◌, ◌-◌, ◌≤◌}
 use native.Mathlib.Omega.{arith}
-use lib.ListN.{length, drop, get_or}
-use borrow.Author.Rules.{rules}
-use Rattle.code.specs.Count.{begins, patterns_from}
+use lib.ListN.{get_or}
+use Rattle.code.specs.Count.{begins}
 use Rattle.code.proofs.CountLaws.{count_stop, count-more, count-end, more-small}
 use Rattle.code.proofs.count.patterns.Goals as goal
 

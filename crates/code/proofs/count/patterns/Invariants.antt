@@ -1,11 +1,8 @@
 use mathlib.Core.Path.{◌≡◌}
 use mathlib.Core.Bool.{false}
 use Prim.Native.Nat.{◌+◌, ◌-◌, ◌≤◌}
-use native.Mathlib.Omega.{arith}
-use lib.ListN.{length, drop, get_or}
-use borrow.Author.Rules.{rules}
-use Rattle.code.specs.Count.{begins, patterns_from}
-use Rattle.code.proofs.CountLaws.{count_stop, count-more, count-end, more-small}
+use lib.ListN.{length, drop}
+use Rattle.code.specs.Count.{patterns_from}
 use Rattle.code.proofs.count.patterns.Given as goal
 
 abbrev pub invariant-loop-i : goal.invariant-loop-i

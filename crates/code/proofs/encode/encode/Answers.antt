@@ -1,9 +1,8 @@
 -- `encode` meets its contract: what is coded so far and the code of what is left make the whole; what is left falls.
 -- Assumes nothing.
 use mathlib.Core.Path.{refl}
-use borrow.Author.Rules.{rules}
 use Rattle.common.proofs.Bools.{or_right, or-none}
-use Rattle.code.proofs.EncodeLaws.{Going, going_start, going_shorter, going_more, going_end, going_full}
+use Rattle.code.proofs.EncodeLaws.{going_start, going_shorter, going_more, going_end, going_full}
 use Rattle.code.proofs.encode.encode.Goals as goal
 
 pub loop-c-init : goal.loop-c-init

@@ -1,7 +1,4 @@
-use mathlib.Core.Path.{refl}
-use borrow.Author.Rules.{rules}
-use Rattle.common.proofs.Bools.{or_right, or-none}
-use Rattle.code.proofs.EncodeLaws.{Going, going_start, going_shorter, going_more, going_end, going_full}
+use Rattle.code.proofs.EncodeLaws.{Going}
 use Rattle.code.proofs.encode.encode.Given as goal
 
 abbrev pub invariant-loop-c : goal.invariant-loop-c

@@ -3,7 +3,6 @@
 use Rattle.lexer.proofs.NextLaws.{next_means}
 use Rattle.code.proofs.FrontLaws.{front_end, front_mark, front_other, front_letter, front_name}
 use native.Mathlib.Omega.{arith}
-use borrow.Author.Rules.{rules}
 use Rattle.code.proofs.IdLaws.{id_fits}
 use Rattle.code.proofs.encode.front.Goals as goal
 

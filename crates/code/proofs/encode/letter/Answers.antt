@@ -2,7 +2,6 @@
 -- Assumes nothing.
 use mathlib.Core.Path.{refl, sym}
 use lib.ListN.{get_or-eq_default}
-use borrow.Author.Rules.{rules}
 use Rattle.code.specs.Code.{byte_of_kind, letters}
 use Rattle.code.proofs.encode.letter.Goals as goal
 

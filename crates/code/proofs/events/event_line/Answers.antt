@@ -1,10 +1,9 @@
 -- `event_line` meets its contract: the names read so far and what is left make the whole; what is left falls.
 -- Assumes nothing.
 use mathlib.Core.Path.{refl}
-use borrow.Author.Rules.{rules}
 use borrow.Author.Tests.{eq-eqb, ne_eqb}
 use Rattle.common.proofs.Bools.{or_right, or-none}
-use Rattle.code.proofs.EventLaws.{Going, going_start, going_shorter, going_more, going_end, going_other, going_full}
+use Rattle.code.proofs.EventLaws.{going_start, going_shorter, going_more, going_end, going_other, going_full}
 use Rattle.code.proofs.events.event_line.Goals as goal
 
 pub loop-roles-init : goal.loop-roles-init

@@ -2,7 +2,6 @@
 -- Assumes nothing.
 use Rattle.lexer.proofs.NextLaws.{next_means}
 use Rattle.code.proofs.PartLaws.{at_end, at_mark, at_other, at_word, at_name}
-use borrow.Author.Rules.{rules}
 use Rattle.code.proofs.events.name_at.Goals as goal
 
 pub returns-then-k-eq-NAME : goal.returns-then-k-eq-NAME

@@ -4,7 +4,6 @@ use mathlib.Core.Path.{ap, ◌∙◌}
 use Prim.Native.Nat.{ℕ}
 use Rattle.names.specs.Place.{place}
 use Rattle.code.proofs.IdLaws.{id_place, id_past, id_none}
-use borrow.Author.Rules.{rules}
 use Rattle.code.proofs.ids.id_of.Goals as goal
 
 pub returns-then-at-lt127 : goal.returns-then-at-lt127

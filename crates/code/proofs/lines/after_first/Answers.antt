@@ -2,7 +2,6 @@
 -- Assumes nothing.
 use mathlib.Core.Path.{refl}
 use Rattle.code.proofs.LineLaws.{after_first_is}
-use borrow.Author.Rules.{rules}
 use Rattle.code.proofs.lines.after_first.Goals as goal
 
 pub returns-in-End : goal.returns-in-End

@@ -2,7 +2,6 @@
 -- Assumes nothing.
 use mathlib.Core.Path.{ap, ◌∙◌}
 use Rattle.names.specs.Name.{packed}
-use borrow.Author.Rules.{rules}
 use Rattle.code.proofs.LineLaws.{front_word}
 use Rattle.code.proofs.lines.leading.Goals as goal
 

@@ -1,7 +1,6 @@
 -- `role_line` meets its contract: its parts are put together by `role_read`.
 -- Assumes nothing.
 use Rattle.code.proofs.LineLaws.{role_read}
-use borrow.Author.Rules.{rules}
 use Rattle.code.proofs.lines.role_line.Goals as goal
 
 pub returns : goal.returns

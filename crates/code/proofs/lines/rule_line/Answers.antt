@@ -1,7 +1,6 @@
 -- `rule_line` meets its contract: its parts are put together by `rule_read`.
 -- Assumes nothing.
 use Rattle.code.proofs.LineLaws.{rule_read}
-use borrow.Author.Rules.{rules}
 use Rattle.code.proofs.lines.rule_line.Goals as goal
 
 pub returns : goal.returns

@@ -1,9 +1,7 @@
 -- `blank` meets its contract: the columns up to i are blank. What falls is the columns left.
 -- Assumes nothing.
-use Prim.Native.Nat.{◌-◌}
-use borrow.Author.Rules.{rules}
 use Rattle.columns.proofs.WriteLaws.{writes_length}
-use Rattle.columns.proofs.BlankLaws.{Blank, blank_start, blank_more, blank_end, blank_full}
+use Rattle.columns.proofs.BlankLaws.{blank_start, blank_more, blank_end, blank_full}
 use Rattle.columns.proofs.bytes.blank.Goals as goal
 
 pub loop-i-init : goal.loop-i-init

@@ -1,6 +1,5 @@
 -- `put` meets its contract.
 -- Assumes nothing.
-use borrow.Author.Rules.{rules}
 use Rattle.columns.proofs.WriteLaws.{writes_full, writes_put}
 use Rattle.columns.proofs.bytes.put.Goals as goal
 

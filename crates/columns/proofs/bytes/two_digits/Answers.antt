@@ -1,6 +1,5 @@
 -- `two_digits` meets its contract: one byte after the other.
 -- Assumes nothing.
-use borrow.Author.Rules.{rules}
 use Rattle.columns.proofs.WriteLaws.{writes_then}
 use Rattle.columns.proofs.bytes.two_digits.Goals as goal
 

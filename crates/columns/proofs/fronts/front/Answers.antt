@@ -1,6 +1,5 @@
 -- `front` meets its contract: a name has at most eight bytes, so column 13 is a space.
 -- Assumes nothing.
-use borrow.Author.Rules.{rules}
 use Rattle.names.proofs.UnpackedLaws.{unpacked-length}
 use Rattle.columns.proofs.BlankLaws.{writes_front}
 use Rattle.columns.proofs.fronts.front.Goals as goal

@@ -1,6 +1,5 @@
 -- `opening` meets its contract: one text after the other.
 -- Assumes nothing.
-use borrow.Author.Rules.{rules}
 use Rattle.columns.proofs.WriteLaws.{writes_then}
 use Rattle.columns.proofs.fronts.opening.Goals as goal
 

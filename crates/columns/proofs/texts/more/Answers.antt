@@ -2,14 +2,11 @@
 -- Assumes nothing.
 use mathlib.Core.Path.{ap}
 use mathlib.Core.List.{List, map}
-use Prim.Native.Nat.{ℕ, ◌-◌, ◌≤◌}
+use Prim.Native.Nat.{ℕ}
 use native.Mathlib.Omega.{arith}
-use lib.ListN.{length, take}
 use lib.Seq.{take_all}
-use borrow.Author.Rules.{rules}
 use Rattle.names.specs.Unpacked.{unpacked}
 use Rattle.columns.specs.Texts.{before}
-use Rattle.columns.specs.Writing.{Writes}
 use Rattle.columns.proofs.WriteLaws.{writes_none, writes_same, writes_length}
 use Rattle.columns.proofs.WordLaws.{writes_more}
 use Rattle.columns.proofs.texts.more.Goals as goal

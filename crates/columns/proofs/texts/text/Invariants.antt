@@ -1,10 +1,6 @@
 use Prim.Native.Nat.{◌-◌, ◌≤◌}
-use native.Mathlib.Omega.{arith}
 use lib.ListN.{length, take}
-use lib.Seq.{take_all}
-use borrow.Author.Rules.{rules}
 use Rattle.columns.specs.Writing.{Writes}
-use Rattle.columns.proofs.WriteLaws.{writes_none, writes_same, writes_length, writes_byte}
 use Rattle.columns.proofs.texts.text.Given as goal
 
 abbrev pub invariant-loop-i : goal.invariant-loop-i

@@ -1,9 +1,7 @@
 -- `word` meets its contract: the columns before i are written, and none is a space. What falls is the columns left.
 -- Assumes nothing.
-use Prim.Native.Nat.{◌-◌}
-use borrow.Author.Rules.{rules}
 use Rattle.columns.proofs.WriteLaws.{writes_length}
-use Rattle.columns.proofs.WordLaws.{Spelling, spelling_start, spelling_more, spelling_space, spelling_end}
+use Rattle.columns.proofs.WordLaws.{spelling_start, spelling_more, spelling_space, spelling_end}
 use Rattle.columns.proofs.texts.word.Goals as goal
 
 pub loop-i-init : goal.loop-i-init

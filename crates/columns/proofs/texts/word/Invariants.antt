@@ -1,7 +1,5 @@
 use Prim.Native.Nat.{◌-◌}
-use borrow.Author.Rules.{rules}
-use Rattle.columns.proofs.WriteLaws.{writes_length}
-use Rattle.columns.proofs.WordLaws.{Spelling, spelling_start, spelling_more, spelling_space, spelling_end}
+use Rattle.columns.proofs.WordLaws.{Spelling}
 use Rattle.columns.proofs.texts.word.Given as goal
 
 abbrev pub invariant-loop-i : goal.invariant-loop-i

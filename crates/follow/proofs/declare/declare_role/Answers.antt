@@ -2,7 +2,6 @@
 -- Assumes nothing.
 use mathlib.Core.Path.{sym, ◌∙◌}
 use native.Mathlib.Omega.{arith}
-use borrow.Author.Rules.{rules}
 use Rattle.follow.proofs.StateLaws.{role_5, role_6, role_8, role_0}
 use Rattle.follow.proofs.declare.declare_role.Goals as goal
 

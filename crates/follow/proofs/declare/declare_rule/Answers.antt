@@ -1,7 +1,6 @@
 -- `declare_rule` meets its contract: a law of StateLaws for each answer.
 -- Assumes nothing.
 use mathlib.Core.Path.{sym, ◌∙◌}
-use borrow.Author.Rules.{rules}
 use Rattle.follow.proofs.StateLaws.{rule_5, rule_6, rule_7, rule_8, rule_0}
 use Rattle.follow.proofs.declare.declare_rule.Goals as goal
 

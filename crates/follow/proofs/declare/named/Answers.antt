@@ -2,7 +2,6 @@
 -- Assumes nothing.
 use mathlib.Core.Path.{sym}
 use lib.Seq.{length-take-le}
-use borrow.Author.Rules.{rules}
 use Rattle.follow.proofs.StateLaws.{named-is}
 use Rattle.follow.proofs.declare.named.Goals as goal
 

@@ -1,7 +1,6 @@
 -- `taken` meets its contract: among the roles, and then among the rules.
 -- Assumes nothing.
 use mathlib.Core.Path.{sym, ◌∙◌}
-use borrow.Author.Rules.{rules}
 use Rattle.follow.proofs.StateLaws.{taken-role, taken-rule}
 use Rattle.follow.proofs.declare.taken.Goals as goal
 

@@ -1,6 +1,5 @@
 -- `put_name` meets its contract.
 -- Assumes nothing.
-use borrow.Author.Rules.{rules}
 use Rattle.follow.proofs.RowLaws.{put_there, put_nowhere}
 use Rattle.follow.proofs.puts.put_name.Goals as goal
 

@@ -1,6 +1,5 @@
 -- `put_number` meets its contract.
 -- Assumes nothing.
-use borrow.Author.Rules.{rules}
 use Rattle.follow.proofs.RowLaws.{put_there, put_nowhere}
 use Rattle.follow.proofs.puts.put_number.Goals as goal
 

@@ -1,6 +1,5 @@
 -- `put_parent` meets its contract.
 -- Assumes nothing.
-use borrow.Author.Rules.{rules}
 use Rattle.follow.proofs.RowLaws.{put_there, put_nowhere}
 use Rattle.follow.proofs.puts.put_parent.Goals as goal
 

@@ -1,6 +1,5 @@
 -- `put_row` meets its contract.
 -- Assumes nothing.
-use borrow.Author.Rules.{rules}
 use Rattle.follow.proofs.RowLaws.{row_put, row_nowhere}
 use Rattle.follow.proofs.puts.put_row.Goals as goal
 

@@ -1,7 +1,6 @@
 -- `code_of` meets its contract: a law of RowLaws for each part lent.
 -- Assumes nothing.
 use native.Mathlib.Omega.{arith}
-use borrow.Author.Rules.{rules}
 use Rattle.follow.proofs.RowLaws.{code_none, code_last, code_whole}
 use Rattle.follow.proofs.rows.code_of.Goals as goal
 

@@ -1,6 +1,5 @@
 -- `row` meets its contract: a law of RowLaws for each part lent.
 -- Assumes nothing.
-use borrow.Author.Rules.{rules}
 use Rattle.follow.proofs.RowLaws.{row_beyond, row_last, row-whole}
 use Rattle.follow.proofs.rows.row.Goals as goal
 

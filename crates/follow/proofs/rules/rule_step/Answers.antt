@@ -1,6 +1,5 @@
 -- `rule_step` meets its contract: the walk over the code, and the positions from what it finds.
 -- Assumes nothing.
-use borrow.Author.Rules.{rules}
 use Rattle.follow.proofs.RuleLaws.{step_idle, step_right}
 use Rattle.follow.proofs.rules.rule_step.Goals as goal
 

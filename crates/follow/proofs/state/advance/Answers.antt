@@ -1,9 +1,7 @@
 -- `advance` meets its contract: the loop's laws are those of AdvanceLaws, and what falls is the rules left.
 -- Assumes nothing.
-use Prim.Native.Nat.{◌-◌}
 use native.Mathlib.Omega.{arith}
-use borrow.Author.Rules.{rules}
-use Rattle.follow.proofs.AdvanceLaws.{Going, start, onward, finish}
+use Rattle.follow.proofs.AdvanceLaws.{start, onward, finish}
 use Rattle.follow.proofs.state.advance.Goals as goal
 
 pub loop-i-init : goal.loop-i-init

@@ -1,7 +1,5 @@
 use Prim.Native.Nat.{◌-◌}
-use native.Mathlib.Omega.{arith}
-use borrow.Author.Rules.{rules}
-use Rattle.follow.proofs.AdvanceLaws.{Going, start, onward, finish}
+use Rattle.follow.proofs.AdvanceLaws.{Going}
 use Rattle.follow.proofs.state.advance.Given as goal
 
 abbrev pub invariant-loop-i : goal.invariant-loop-i

@@ -1,7 +1,6 @@
 -- `matches` meets its contract.
 -- Assumes nothing.
 use mathlib.Core.Path.{ap₂, ◌∙◌}
-use borrow.Author.Rules.{rules}
 use Rattle.positions.specs.Sets.{shares}
 use Rattle.follow.proofs.state.matches.Goals as goal
 

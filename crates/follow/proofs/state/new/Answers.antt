@@ -2,7 +2,6 @@
 -- Assumes nothing.
 use mathlib.Core.Path.{ap}
 use Prim.Native.Nat.{ℕ}
-use borrow.Author.Rules.{rules}
 use lib.ListN.{replicate}
 use Rattle.follow.specs.State.{sheet_with}
 use Rattle.follow.proofs.state.new.Goals as goal

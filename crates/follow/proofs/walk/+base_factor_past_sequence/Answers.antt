@@ -1,13 +1,9 @@
 -- `base`, `factor`, `sequence` and `past` meet their contracts: a law of WalkLaws for each way out. What falls is the code left, and then the level.
 -- Assumes nothing.
 use mathlib.Core.Path.{sym, ◌∙◌}
-use Prim.Native.Nat.{◌-◌, ◌+◌, ◌*◌}
-use lib.ListN.{length}
 use Rattle.follow.proofs.StarLaws.{stars_none, stars_stop}
 use Rattle.follow.proofs.WalkLaws.{no_base, pattern_base, short_base, empty_base, open_base, inner_base, whole_factor, last-seq, end-seq, more-seq, last-past, end-past, either-past}
-use borrow.Author.Rules.{rules}
 use native.Mathlib.Omega.{arith}
-use Prim.Native.Nat.{ℕ, ◌<◌}
 use Rattle.follow.proofs.walk.+base_factor_past_sequence.Goals as goal
 
 pub base-returns-then-at-code : goal.base-returns-then-at-code

@@ -1,10 +1,6 @@
 -- `stars` meets its contract: a law of StarLaws for each way out. What falls is the code left.
 -- Assumes nothing.
-use Prim.Native.Nat.{◌-◌}
-use lib.ListN.{length}
 use Rattle.follow.proofs.StarLaws.{stars_none, stars_stop, stars_more}
-use borrow.Author.Rules.{rules}
-use Prim.Native.Nat.{ℕ, ◌<◌}
 use Rattle.follow.proofs.walk.+stars.Goals as goal
 
 pub returns-then-e-code : goal.returns-then-e-code

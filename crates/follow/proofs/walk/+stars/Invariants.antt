@@ -1,8 +1,5 @@
 use Prim.Native.Nat.{◌-◌}
 use lib.ListN.{length}
-use Rattle.follow.proofs.StarLaws.{stars_none, stars_stop, stars_more}
-use borrow.Author.Rules.{rules}
-use Prim.Native.Nat.{ℕ, ◌<◌}
 use Rattle.follow.proofs.walk.+stars.Given as goal
 
 abbrev pub decreases-stars : goal.decreases-stars

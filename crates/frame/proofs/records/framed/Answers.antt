@@ -1,5 +1,4 @@
 use mathlib.Core.Path.{ap, sym, ◌∙◌}
-use borrow.Author.Rules.{rules}
 use Rattle.lexer.specs.Class.{all_classed}
 use Rattle.frame.proofs.FrameLaws.{frame_length, frame_end, frame_classless, frame_kind}
 use Rattle.frame.proofs.records.framed.Goals as goal

@@ -1,10 +1,7 @@
 -- `ends` answers whether no token is left.
 use mathlib.Core.Path.{sym}
-use mathlib.Core.Logic.{⊎_elim}
-use native.Mathlib.Omega.{arith}
 use Rattle.lexer.proofs.NextLaws.{next_means}
 use Rattle.grammar.proofs.LeafLaws.{ends-yes, ends-no}
-use borrow.Author.Rules.{rules}
 use Rattle.grammar.proofs.leaves.ends.Goals as goal
 
 pub returns-in-End : goal.returns-in-End

@@ -1,9 +1,6 @@
 -- `mark_at` answers as the parser of one mark does: that mark, another mark, or no mark.
-use mathlib.Core.Logic.{⊎_elim}
-use native.Mathlib.Omega.{arith}
 use Rattle.lexer.proofs.NextLaws.{next_means}
 use Rattle.grammar.proofs.LeafLaws.{mark-yes, mark-no, mark-none}
-use borrow.Author.Rules.{rules}
 use Rattle.grammar.proofs.leaves.mark_at.Goals as goal
 
 pub returns-then-m-b : goal.returns-then-m-b

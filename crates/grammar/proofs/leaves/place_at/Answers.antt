@@ -1,9 +1,6 @@
 -- `place_at` answers as the parser of a place does: a digit from 1 to 4, a word of a lower or a higher kind, or no word.
-use mathlib.Core.Logic.{⊎_elim}
-use native.Mathlib.Omega.{arith}
 use Rattle.lexer.proofs.NextLaws.{next_means}
 use Rattle.grammar.proofs.LeafLaws.{place-yes, place_low, place_high, place_none}
-use borrow.Author.Rules.{rules}
 use Rattle.grammar.proofs.leaves.place_at.Goals as goal
 
 pub returns-then-q-le-ZERO : goal.returns-then-q-le-ZERO

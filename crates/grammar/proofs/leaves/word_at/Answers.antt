@@ -1,9 +1,6 @@
 -- `word_at` answers as the parser of one word does: a word of that kind, of another kind, or no word.
-use mathlib.Core.Logic.{⊎_elim}
-use native.Mathlib.Omega.{arith}
 use Rattle.lexer.proofs.NextLaws.{next_means}
 use Rattle.grammar.proofs.LeafLaws.{word-yes, word-no, word_none}
-use borrow.Author.Rules.{rules}
 use Rattle.grammar.proofs.leaves.word_at.Goals as goal
 
 pub returns-then-q-k : goal.returns-then-q-k

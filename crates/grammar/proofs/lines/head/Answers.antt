@@ -1,7 +1,6 @@
 -- `head` answers as the parser of a rule line's head does, one reader after another.
 use Rattle.grammar.proofs.LevelLaws.{chain, chain_bad, mapped}
 use Rattle.grammar.specs.Parser.{head_of}
-use borrow.Author.Rules.{rules}
 use Rattle.grammar.proofs.lines.head.Goals as goal
 
 pub returns-in_default : goal.returns-in_default

@@ -1,6 +1,5 @@
 -- `is_role` answers whether the parser of role lines reads the whole text.
 use Rattle.grammar.proofs.AnswerLaws.{whole-left, whole_bad}
-use borrow.Author.Rules.{rules}
 use Rattle.grammar.proofs.lines.is_role.Goals as goal
 
 pub returns-in-Left : goal.returns-in-Left

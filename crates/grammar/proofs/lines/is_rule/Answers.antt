@@ -1,7 +1,6 @@
 -- `is_rule` answers whether the parser of rule lines reads the whole text, at the depth that its length gives.
 use Rattle.grammar.proofs.AnswerLaws.{whole-left, whole_bad}
 use native.Mathlib.Omega.{arith}
-use borrow.Author.Rules.{rules}
 use Rattle.grammar.proofs.lines.is_rule.Goals as goal
 
 pub returns-in-Left : goal.returns-in-Left

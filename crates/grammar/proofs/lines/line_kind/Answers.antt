@@ -1,7 +1,6 @@
 -- `line_kind` answers which kind of line the text says: a rule line, else a role line, else neither.
 use mathlib.Core.Path.{sym, ◌∙◌}
 use Rattle.grammar.proofs.Shapes.{kind-rule, kind-role, kind_neither}
-use borrow.Author.Rules.{rules}
 use Rattle.grammar.proofs.lines.line_kind.Goals as goal
 
 pub returns-then-is_rule : goal.returns-then-is_rule

@@ -1,7 +1,6 @@
 -- `role` answers as the parser of role lines does, one reader after another.
 use Rattle.grammar.proofs.LevelLaws.{chain, chain_bad, mapped}
 use Rattle.grammar.specs.Parser.{role_of}
-use borrow.Author.Rules.{rules}
 use Rattle.grammar.proofs.lines.role.Goals as goal
 
 pub returns-in_default : goal.returns-in_default

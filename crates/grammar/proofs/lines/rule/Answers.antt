@@ -2,7 +2,6 @@
 use Rattle.grammar.proofs.LevelLaws.{part_shorter, chain, chain_bad, mapped, at_depth, at_depths}
 use Rattle.grammar.specs.Parser.{tail_of, rule_of, past_of}
 use native.Mathlib.Omega.{arith}
-use borrow.Author.Rules.{rules}
 use Rattle.grammar.proofs.lines.rule.Goals as goal
 
 pub returns-in_default : goal.returns-in_default

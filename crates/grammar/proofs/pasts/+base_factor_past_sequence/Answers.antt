@@ -1,11 +1,8 @@
 -- `past`, `sequence`, `factor` and `base` answer as their parsers do. What falls is four times the unread length and the level: past 3, sequence 2, factor 1, base 0.
 use Rattle.grammar.proofs.LevelLaws.{part_shorter}
 use Rattle.grammar.proofs.LevelPasts.{past_bad, past-only, past-either, sequence_bad, sequence_single, sequence_beside, factor_bad, factor_stars, base_pattern, base_nothing, base_bad, base_group}
-use borrow.Author.Rules.{rules}
 use native.Mathlib.Omega.{arith}
-use lib.ListN.{length}
 use mathlib.Core.Path.{sym, ◌∙◌}
-use Prim.Native.Nat.{ℕ, ◌<◌, ◌+◌, ◌*◌}
 use Rattle.grammar.proofs.pasts.+base_factor_past_sequence.Goals as goal
 
 pub base-past-requires : goal.base-past-requires

@@ -1,10 +1,7 @@
 -- `stars` leaves what follows the stars in front. What falls is the unread length.
 use Rattle.grammar.proofs.LevelLaws.{part_shorter}
 use Rattle.grammar.proofs.LevelPasts.{stars_stop, stars_more}
-use borrow.Author.Rules.{rules}
 use native.Mathlib.Omega.{arith}
-use lib.ListN.{length}
-use Prim.Native.Nat.{ℕ, ◌<◌}
 use Rattle.grammar.proofs.pasts.+stars.Goals as goal
 
 pub stars-requires : goal.stars-requires

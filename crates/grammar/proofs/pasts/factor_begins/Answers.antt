@@ -5,7 +5,6 @@ use native.Mathlib.Omega.{arith}
 use borrow.Author.Tests.{eq-eqb, ne_eqb}
 use Rattle.lexer.proofs.NextLaws.{next_means}
 use Rattle.grammar.proofs.LeafLaws.{begins-mark, begins-word, begins-none}
-use borrow.Author.Rules.{rules}
 use Rattle.grammar.proofs.pasts.factor_begins.Goals as goal
 
 pub returns-then-m-eq60 : goal.returns-then-m-eq60

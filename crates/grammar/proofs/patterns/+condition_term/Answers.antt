@@ -2,9 +2,6 @@
 use Rattle.grammar.proofs.LevelLaws.{part_shorter}
 use Rattle.grammar.proofs.LevelPatterns.{condition_bad, condition_term, condition_or, term-not, term-simple, term_bad, term-inside}
 use native.Mathlib.Omega.{arith}
-use lib.ListN.{length}
-use borrow.Author.Rules.{rules}
-use Prim.Native.Nat.{ℕ, ◌<◌, ◌+◌, ◌*◌}
 use Rattle.grammar.proofs.patterns.+condition_term.Goals as goal
 
 pub condition-condition-requires : goal.condition-condition-requires

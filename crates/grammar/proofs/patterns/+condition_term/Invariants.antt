@@ -1,9 +1,5 @@
-use Rattle.grammar.proofs.LevelLaws.{part_shorter}
-use Rattle.grammar.proofs.LevelPatterns.{condition_bad, condition_term, condition_or, term-not, term-simple, term_bad, term-inside}
-use native.Mathlib.Omega.{arith}
 use lib.ListN.{length}
-use borrow.Author.Rules.{rules}
-use Prim.Native.Nat.{ℕ, ◌<◌, ◌+◌, ◌*◌}
+use Prim.Native.Nat.{◌+◌, ◌*◌}
 use Rattle.grammar.proofs.patterns.+condition_term.Given as goal
 
 abbrev pub decreases-condition : goal.decreases-condition

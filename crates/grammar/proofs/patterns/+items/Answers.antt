@@ -1,8 +1,5 @@
 -- `items` answers as the parser of at most k items does. What falls is k.
 use Rattle.grammar.proofs.LevelPatterns.{items-full, items-close, items_more, items_open}
-use native.Mathlib.Omega.{arith}
-use borrow.Author.Rules.{rules}
-use Prim.Native.Nat.{ℕ, ◌<◌}
 use Rattle.grammar.proofs.patterns.+items.Goals as goal
 
 pub returns-then-k-eq0 : goal.returns-then-k-eq0

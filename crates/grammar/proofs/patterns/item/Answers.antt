@@ -1,6 +1,5 @@
 -- `item` answers as the parser of an item does: after a +, or with none.
 use Rattle.grammar.proofs.LevelPatterns.{item-below, item-exact}
-use borrow.Author.Rules.{rules}
 use Rattle.grammar.proofs.patterns.item.Goals as goal
 
 pub returns-in-Left : goal.returns-in-Left

@@ -1,6 +1,5 @@
 -- `open_end` answers as the parser of * and > does.
 use Rattle.grammar.proofs.LevelPatterns.{open_yes, open_no}
-use borrow.Author.Rules.{rules}
 use Rattle.grammar.proofs.patterns.open_end.Goals as goal
 
 pub returns-in-Left : goal.returns-in-Left

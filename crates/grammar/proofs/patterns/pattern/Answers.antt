@@ -1,6 +1,5 @@
 -- `pattern` answers as its parser does at each depth: a condition in square brackets, or a simple pattern.
 use Rattle.grammar.proofs.LevelPatterns.{pattern-plain, pattern_bad, pattern-bracketed}
-use borrow.Author.Rules.{rules}
 use Rattle.grammar.proofs.patterns.pattern.Goals as goal
 
 pub returns-in-Left-condition : goal.returns-in-Left-condition

@@ -1,6 +1,5 @@
 -- `simple` answers as its parser does: items after <, or the word any.
 use Rattle.grammar.proofs.LevelPatterns.{simple-items, simple_any}
-use borrow.Author.Rules.{rules}
 use Rattle.grammar.proofs.patterns.simple.Goals as goal
 
 pub returns-in-Left : goal.returns-in-Left

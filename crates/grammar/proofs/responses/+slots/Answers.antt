@@ -1,8 +1,5 @@
 -- `slots` answers as the parser of at most k slots does. What falls is k.
 use Rattle.grammar.proofs.LevelResponses.{slots_full, slots_close, slots_more, slots_bad}
-use native.Mathlib.Omega.{arith}
-use borrow.Author.Rules.{rules}
-use Prim.Native.Nat.{ℕ, ◌<◌}
 use Rattle.grammar.proofs.responses.+slots.Goals as goal
 
 pub returns-then-k-eq0 : goal.returns-then-k-eq0

@@ -1,6 +1,5 @@
 -- `response` answers as its parser does, one law for each of its four words and one for none of them.
 use Rattle.grammar.proofs.LevelResponses.{response-pass, response-hold, response-send, response-anew, response_bad}
-use borrow.Author.Rules.{rules}
 use Rattle.grammar.proofs.responses.response.Goals as goal
 
 pub returns-in-Left : goal.returns-in-Left

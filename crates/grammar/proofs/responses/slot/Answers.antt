@@ -1,6 +1,5 @@
 -- `slot` answers as its parser does: a place after #, or a name.
 use Rattle.grammar.proofs.LevelResponses.{slot_place, slot_named}
-use borrow.Author.Rules.{rules}
 use Rattle.grammar.proofs.responses.slot.Goals as goal
 
 pub returns-in-Left : goal.returns-in-Left

@@ -1,6 +1,5 @@
 -- `template` answers as its parser does: slots after <.
 use Rattle.grammar.proofs.LevelResponses.{template-yes, template-no}
-use borrow.Author.Rules.{rules}
 use Rattle.grammar.proofs.responses.template.Goals as goal
 
 pub returns-in-Left : goal.returns-in-Left

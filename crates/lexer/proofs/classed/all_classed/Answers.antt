@@ -1,10 +1,8 @@
-use mathlib.Core.Path.{◌≡◌, refl, sym, ◌∙◌}
-use Prim.Native.Nat.{◌-◌, ◌≤◌}
-use lib.ListN.{length, drop, get_or}
+use mathlib.Core.Path.{refl, sym, ◌∙◌}
+use lib.ListN.{get_or}
 use native.Mathlib.Omega.{arith}
 use borrow.Author.Rules.{rules}
 use Rattle.lexer.proofs.ClassTable.{class_at}
-use Rattle.lexer.specs.Class.{all_classed}
 use Rattle.lexer.proofs.ClassedLaws.{classed-more, classed_stop, classed-end}
 use Rattle.lexer.proofs.classed.all_classed.Goals as goal
 

@@ -1,11 +1,7 @@
-use mathlib.Core.Path.{◌≡◌, refl, sym, ◌∙◌}
+use mathlib.Core.Path.{◌≡◌}
 use Prim.Native.Nat.{◌-◌, ◌≤◌}
-use lib.ListN.{length, drop, get_or}
-use native.Mathlib.Omega.{arith}
-use borrow.Author.Rules.{rules}
-use Rattle.lexer.proofs.ClassTable.{class_at}
+use lib.ListN.{length, drop}
 use Rattle.lexer.specs.Class.{all_classed}
-use Rattle.lexer.proofs.ClassedLaws.{classed-more, classed_stop, classed-end}
 use Rattle.lexer.proofs.classed.all_classed.Given as goal
 
 abbrev pub invariant-loop-i : goal.invariant-loop-i

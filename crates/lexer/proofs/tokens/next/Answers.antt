@@ -4,7 +4,6 @@ use lib.ListN.{length}
 use Rattle.lexer.specs.Class.{wordy}
 use Rattle.lexer.proofs.RunLaws.{run_length}
 use Rattle.lexer.proofs.NextLaws.{next-end, next-mark, next-other, next_word}
-use borrow.Author.Rules.{rules}
 use Rattle.lexer.proofs.tokens.next.Goals as goal
 
 pub returns-then-m-eq0 : goal.returns-then-m-eq0

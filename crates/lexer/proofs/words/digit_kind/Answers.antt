@@ -1,6 +1,5 @@
 use Rattle.lexer.specs.Words.{digit_kind}
 use borrow.Author.Tests.{lt-leb, le-leb, eq-eqb, ne_eqb}
-use borrow.Author.Rules.{rules}
 use Rattle.lexer.proofs.words.digit_kind.Goals as goal
 
 pub returns-then-w-ne1 : goal.returns-then-w-ne1

@@ -1,7 +1,6 @@
 use mathlib.Core.Path.{ap, ◌∙◌}
 use Rattle.lexer.specs.Class.{wordy}
 use Rattle.lexer.specs.Run.{run}
-use borrow.Author.Rules.{rules}
 use Rattle.lexer.proofs.words.first_word.Goals as goal
 
 pub returns : goal.returns

@@ -2,7 +2,6 @@ use native.Mathlib.Omega.{arith}
 use lib.ListN.{length}
 use Rattle.lexer.specs.Words.{name_like}
 use borrow.Author.Tests.{lt-leb, le-leb}
-use borrow.Author.Rules.{rules}
 use Rattle.lexer.proofs.words.name_like.Goals as goal
 
 pub returns-then-n-eq0 : goal.returns-then-n-eq0

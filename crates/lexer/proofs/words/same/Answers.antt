@@ -1,9 +1,5 @@
-use mathlib.Core.Path.{◌≡◌, sym, ◌∙◌}
-use Prim.Native.Nat.{◌-◌, ◌≤◌}
+use mathlib.Core.Path.{sym, ◌∙◌}
 use native.Mathlib.Omega.{arith}
-use lib.ListN.{length, drop}
-use borrow.Author.Rules.{rules}
-use Rattle.lexer.specs.Words.{same}
 use Rattle.lexer.proofs.SameLaws.{same_more_one, same_stop, same_end, same_lengths}
 use Rattle.lexer.proofs.words.same.Goals as goal
 

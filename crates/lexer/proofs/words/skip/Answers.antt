@@ -1,7 +1,6 @@
 use native.Mathlib.Omega.{arith}
 use Rattle.lexer.specs.Class.{spacey}
 use Rattle.lexer.proofs.RunLaws.{run_length, after_part}
-use borrow.Author.Rules.{rules}
 use Rattle.lexer.proofs.words.skip.Goals as goal
 
 pub slice_bounds-result-count : goal.slice_bounds-result-count

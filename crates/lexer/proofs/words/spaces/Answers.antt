@@ -1,11 +1,9 @@
 use borrow.Author.Tests.{eq-eqb, ne_eqb}
 use borrow.Author.Rules.{rules}
-use mathlib.Core.Path.{◌≡◌, sym, ◌∙◌}
-use Prim.Native.Nat.{◌+◌, ◌-◌, ◌≤◌}
+use mathlib.Core.Path.{sym, ◌∙◌}
 use native.Mathlib.Omega.{arith}
-use lib.ListN.{length, drop, get_or}
+use lib.ListN.{get_or}
 use Rattle.lexer.specs.Class.{spacey}
-use Rattle.lexer.specs.Run.{run}
 use Rattle.lexer.proofs.ClassTable.{class_at}
 use Rattle.lexer.proofs.RunLaws.{run_more_one, run_stop, run_end}
 use Rattle.lexer.proofs.words.spaces.Goals as goal

@@ -1,13 +1,8 @@
-use borrow.Author.Tests.{eq-eqb, ne_eqb}
-use borrow.Author.Rules.{rules}
-use mathlib.Core.Path.{◌≡◌, sym, ◌∙◌}
+use mathlib.Core.Path.{◌≡◌}
 use Prim.Native.Nat.{◌+◌, ◌-◌, ◌≤◌}
-use native.Mathlib.Omega.{arith}
-use lib.ListN.{length, drop, get_or}
+use lib.ListN.{length, drop}
 use Rattle.lexer.specs.Class.{spacey}
 use Rattle.lexer.specs.Run.{run}
-use Rattle.lexer.proofs.ClassTable.{class_at}
-use Rattle.lexer.proofs.RunLaws.{run_more_one, run_stop, run_end}
 use Rattle.lexer.proofs.words.spaces.Given as goal
 
 abbrev pub invariant-loop-i : goal.invariant-loop-i

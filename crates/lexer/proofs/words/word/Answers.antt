@@ -3,7 +3,6 @@ use native.Mathlib.Omega.{arith}
 use Rattle.lexer.specs.Class.{wordy}
 use lib.Seq.{length-take-le}
 use Rattle.lexer.proofs.RunLaws.{run_length, run_take}
-use borrow.Author.Rules.{rules}
 use Rattle.lexer.proofs.words.word.Goals as goal
 
 pub slice_bounds-result-end : goal.slice_bounds-result-end

@@ -1,6 +1,5 @@
 use mathlib.Core.Path.{sym, ◌∙◌}
 use Rattle.lexer.specs.Words.{kind_of}
-use borrow.Author.Rules.{rules}
 use Rattle.lexer.proofs.words.word_kind.Goals as goal
 
 pub returns-then-same : goal.returns-then-same

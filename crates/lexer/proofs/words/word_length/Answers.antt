@@ -1,10 +1,8 @@
 use borrow.Author.Rules.{rules}
-use mathlib.Core.Path.{◌≡◌, sym, ap, ◌∙◌}
-use Prim.Native.Nat.{◌+◌, ◌-◌, ◌≤◌}
+use mathlib.Core.Path.{sym, ap, ◌∙◌}
 use native.Mathlib.Omega.{arith}
-use lib.ListN.{length, drop, get_or}
+use lib.ListN.{get_or}
 use Rattle.lexer.specs.Class.{within, wordy}
-use Rattle.lexer.specs.Run.{run}
 use Rattle.lexer.proofs.ClassTable.{class_at}
 use Rattle.lexer.proofs.RunLaws.{run_more_one, run_stop, run_end}
 use Rattle.lexer.proofs.words.word_length.Goals as goal

@@ -1,12 +1,8 @@
-use borrow.Author.Rules.{rules}
-use mathlib.Core.Path.{◌≡◌, sym, ap, ◌∙◌}
+use mathlib.Core.Path.{◌≡◌}
 use Prim.Native.Nat.{◌+◌, ◌-◌, ◌≤◌}
-use native.Mathlib.Omega.{arith}
-use lib.ListN.{length, drop, get_or}
-use Rattle.lexer.specs.Class.{within, wordy}
+use lib.ListN.{length, drop}
+use Rattle.lexer.specs.Class.{wordy}
 use Rattle.lexer.specs.Run.{run}
-use Rattle.lexer.proofs.ClassTable.{class_at}
-use Rattle.lexer.proofs.RunLaws.{run_more_one, run_stop, run_end}
 use Rattle.lexer.proofs.words.word_length.Given as goal
 
 abbrev pub invariant-loop-i : goal.invariant-loop-i

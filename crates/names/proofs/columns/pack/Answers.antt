@@ -1,4 +1,3 @@
-use borrow.Author.Rules.{rules}
 use Rattle.names.specs.Name.{packed}
 use Rattle.names.proofs.columns.pack.Goals as goal
 

@@ -1,6 +1,5 @@
 use mathlib.Core.Path.{sym}
 use lib.ListN.{get_or-eq_default}
-use borrow.Author.Rules.{rules}
 use Rattle.names.specs.Name.{column_of}
 use Rattle.names.proofs.ColumnLaws.{get_d_any}
 use Rattle.names.proofs.columns.padded.Goals as goal

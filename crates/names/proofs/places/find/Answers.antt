@@ -1,11 +1,9 @@
-use mathlib.Core.Path.{◌≡◌, ap}
+use mathlib.Core.Path.{ap}
 use mathlib.Core.Bool.{not}
-use Prim.Native.Nat.{◌≤◌, ◌+◌, ◌-◌}
 use native.Mathlib.Omega.{arith}
 use borrow.Author.Rules.{rules}
 use borrow.Author.Tests.{eq-eqb, ne_eqb}
-use lib.ListN.{length, drop, get_or}
-use Rattle.lexer.specs.Run.{run}
+use lib.ListN.{get_or}
 use Rattle.lexer.proofs.RunLaws.{run_more_one, run_stop, run_end}
 use Rattle.names.specs.Place.{place, differs}
 use Rattle.names.proofs.places.find.Goals as goal

@@ -1,13 +1,8 @@
-use mathlib.Core.Path.{◌≡◌, ap}
-use mathlib.Core.Bool.{not}
+use mathlib.Core.Path.{◌≡◌}
 use Prim.Native.Nat.{◌≤◌, ◌+◌, ◌-◌}
-use native.Mathlib.Omega.{arith}
-use borrow.Author.Rules.{rules}
-use borrow.Author.Tests.{eq-eqb, ne_eqb}
-use lib.ListN.{length, drop, get_or}
+use lib.ListN.{length, drop}
 use Rattle.lexer.specs.Run.{run}
-use Rattle.lexer.proofs.RunLaws.{run_more_one, run_stop, run_end}
-use Rattle.names.specs.Place.{place, differs}
+use Rattle.names.specs.Place.{differs}
 use Rattle.names.proofs.places.find.Given as goal
 
 abbrev pub invariant-loop-i : goal.invariant-loop-i

@@ -1,10 +1,6 @@
 -- `items` meets its contract: a law of ItemLaws for each way out. What falls is the code left.
 -- Assumes nothing.
-use Prim.Native.Nat.{◌-◌}
-use lib.ListN.{length}
 use Rattle.patterns.proofs.ItemLaws.{no_items, closed, starred, short, unders, sames}
-use borrow.Author.Rules.{rules}
-use Prim.Native.Nat.{ℕ, ◌<◌}
 use Rattle.patterns.proofs.judge.+items.Goals as goal
 
 pub returns-then-at-code : goal.returns-then-at-code

@@ -1,8 +1,5 @@
 use Prim.Native.Nat.{◌-◌}
 use lib.ListN.{length}
-use Rattle.patterns.proofs.ItemLaws.{no_items, closed, starred, short, unders, sames}
-use borrow.Author.Rules.{rules}
-use Prim.Native.Nat.{ℕ, ◌<◌}
 use Rattle.patterns.proofs.judge.+items.Given as goal
 
 abbrev pub decreases-items : goal.decreases-items

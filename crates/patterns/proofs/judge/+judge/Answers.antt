@@ -1,14 +1,10 @@
 -- `judge` meets its contract: a law of TermLaws, and one of PatternLaws, for each way out. What falls is the code left, and then whole.
 -- Assumes nothing.
 use mathlib.Core.Path.{refl, ap}
-use Prim.Native.Nat.{◌-◌, ◌+◌, ◌*◌}
-use lib.ListN.{length}
 use Rattle.patterns.proofs.JudgeLaws.{level, as_condition, as_term}
 use Rattle.patterns.proofs.PatternLaws.{no-pattern, not-pattern, any_pattern, list-pattern, bracket_pattern}
 use Rattle.patterns.proofs.TermLaws.{no-term, not-term, any_term, list-term, bracket_term, last-cond, end-cond, or-cond}
-use borrow.Author.Rules.{rules}
 use native.Mathlib.Omega.{arith}
-use Prim.Native.Nat.{ℕ, ◌<◌}
 use Rattle.patterns.proofs.judge.+judge.Goals as goal
 
 pub judge-t-requires : goal.judge-t-requires

@@ -1,7 +1,6 @@
 -- `after` meets its contract.
 -- Assumes nothing.
 use borrow.Author.Tests.{lt-ltb, le-ltb}
-use borrow.Author.Rules.{rules}
 use Rattle.patterns.proofs.judge.after.Goals as goal
 
 pub returns-then-i-n : goal.returns-then-i-n

@@ -1,7 +1,6 @@
 -- `bracketed` meets its contract.
 -- Assumes nothing.
 use mathlib.Core.Path.{refl}
-use borrow.Author.Rules.{rules}
 use borrow.Author.Tests.{le-leb, lt-leb}
 use Rattle.patterns.proofs.judge.bracketed.Goals as goal
 

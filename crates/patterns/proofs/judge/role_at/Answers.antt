@@ -2,7 +2,6 @@
 -- Assumes nothing.
 use borrow.Author.Tests.{lt-ltb, le-ltb, le-leb, lt-leb}
 use Rattle.patterns.specs.Judged.{role_at}
-use borrow.Author.Rules.{rules}
 use Rattle.patterns.proofs.judge.role_at.Goals as goal
 
 pub returns-then-byte-lt128 : goal.returns-then-byte-lt128

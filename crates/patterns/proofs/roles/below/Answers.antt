@@ -1,9 +1,7 @@
 -- `below` meets its contract: going up keeps the answer, and what falls is the role.
 -- Assumes nothing.
-use mathlib.Core.Path.{◌≡◌, sym, ◌∙◌}
-use Prim.Native.Nat.{◌<◌}
+use mathlib.Core.Path.{sym, ◌∙◌}
 use borrow.Author.Rules.{rules}
-use Rattle.patterns.specs.Table.{below_in}
 use Rattle.patterns.proofs.TableLaws.{here, out, stop, up}
 use Rattle.patterns.proofs.roles.below.Goals as goal
 

@@ -1,8 +1,6 @@
-use mathlib.Core.Path.{◌≡◌, sym, ◌∙◌}
+use mathlib.Core.Path.{◌≡◌}
 use Prim.Native.Nat.{◌<◌}
-use borrow.Author.Rules.{rules}
 use Rattle.patterns.specs.Table.{below_in}
-use Rattle.patterns.proofs.TableLaws.{here, out, stop, up}
 use Rattle.patterns.proofs.roles.below.Given as goal
 
 abbrev pub invariant-loop-at : goal.invariant-loop-at

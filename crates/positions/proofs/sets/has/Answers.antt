@@ -1,7 +1,6 @@
 use native.Mathlib.Omega.{arith}
 use Rattle.positions.proofs.SetLaws.{has_above}
 use mathlib.Core.Path.{sym}
-use borrow.Author.Rules.{rules}
 use Rattle.positions.proofs.sets.has.Goals as goal
 
 pub returns-else-k-lt64 : goal.returns-else-k-lt64

@@ -1,6 +1,5 @@
 use borrow.Author.Tests.{lt-ltb, le-ltb}
 use Rattle.positions.proofs.SetLaws.{single_shl}
-use borrow.Author.Rules.{rules}
 use Rattle.positions.proofs.sets.single.Goals as goal
 
 pub returns-then-k-lt64 : goal.returns-then-k-lt64

@@ -1,4 +1,3 @@
-use borrow.Author.Rules.{rules}
 use Rattle.positions.specs.Summaries.{ends_of}
 use Rattle.positions.proofs.summaries.ends.Goals as goal
 

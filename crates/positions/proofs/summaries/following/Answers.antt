@@ -1,5 +1,4 @@
 use borrow.Author.Tests.{lt-ltb, le-ltb}
-use borrow.Author.Rules.{rules}
 use Rattle.positions.proofs.summaries.following.Goals as goal
 
 pub returns-then-k-lt65 : goal.returns-then-k-lt65

@@ -1,4 +1,3 @@
-use borrow.Author.Rules.{rules}
 use Rattle.positions.specs.Summaries.{seq_summary}
 use Rattle.positions.proofs.summaries.in_order.Goals as goal
 

@@ -1,4 +1,3 @@
-use borrow.Author.Rules.{rules}
 use Rattle.positions.specs.Summaries.{step_of}
 use Rattle.positions.proofs.summaries.moved_on.Goals as goal
 

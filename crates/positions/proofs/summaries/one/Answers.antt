@@ -1,4 +1,3 @@
-use borrow.Author.Rules.{rules}
 use Rattle.positions.specs.Summaries.{pat_summary}
 use Rattle.positions.proofs.summaries.one.Goals as goal
 

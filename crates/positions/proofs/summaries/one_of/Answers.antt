@@ -1,4 +1,3 @@
-use borrow.Author.Rules.{rules}
 use Rattle.positions.specs.Summaries.{alt_summary}
 use Rattle.positions.proofs.summaries.one_of.Goals as goal
 

@@ -1,4 +1,3 @@
-use borrow.Author.Rules.{rules}
 use Rattle.positions.specs.Summaries.{star_summary}
 use Rattle.positions.proofs.summaries.repeated.Goals as goal
 
