@@ -4,7 +4,7 @@
 set -eu
 cd "$(dirname "$0")"
 command -v rustc > /dev/null || { apt-get update && apt-get install -y rustc; }
-rt staticlib stand > /dev/null
+tools/staticlib.sh stand > /dev/null
 out=$(mktemp -d)
 trap 'rm -rf "$out"' EXIT
 rustc --edition 2021 -O -L target/staticlib -o "$out/monitor" bench/monitor/main.rs

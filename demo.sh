@@ -31,7 +31,7 @@ session() {
 
 # The same for a sheet with images: a line for each line of the sheet, and the records of each image kept.
 snapshots() {
-  quietly rt staticlib stand
+  quietly tools/staticlib.sh stand
   command -v cc > /dev/null || { quietly apt-get update && quietly apt-get install -y gcc libc6-dev; }
   cc -std=c99 -O2 -o "$work/snapshots" examples/snapshots.c target/staticlib/libstand.a
   "$work/snapshots" "$sheet"

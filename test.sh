@@ -1,24 +1,31 @@
 #!/usr/bin/env bash
-# All tests: a plain book written from documents 01 and 02 alone against the stored sessions and images and, by random sessions, call by call, in batches, with images kept and restored and by a host's
-# rounds, against the monitor; random pasts against a plain matcher; then every crate proved from nothing, every must-fail edit refused, every program run and compared with its stored output.
-set -eu
+# All tests. First every crate is proved, every must-fail edit refused, every program run and compared with its stored output. Then a plain book written from documents 01 and 02 alone
+# against the stored sessions and images and, by random sessions, call by call, in batches, with images kept and restored and by a host's rounds, against the monitor; random pasts against a
+# plain matcher; the C programs. The last line is that of the proofs again.
+set -eu -o pipefail
 cd "$(dirname "$0")"
-rt fmt --check
-tests/demo/messages.sh
-
-# The Rust programs stand outside the repository: rt ci removes target/.
-command -v rustc > /dev/null || { apt-get update && apt-get install -y rustc; }
 out=$(mktemp -d)
 trap 'rm -rf "$out"' EXIT
+
+# An edit that cannot be applied or read is bad: it shows nothing, so it fails the tests as one that is proved does.
+rt ci 2>&1 | tee "$out/ci"
+if grep -qE '^rt: ok.*, [0-9]+ bad' "$out/ci"; then
+  echo "a must-fail edit is bad" >&2
+  exit 1
+fi
+
+tests/demo/messages.sh
+
+# Rust and C programs stand in no crate.
+command -v rustc > /dev/null || { apt-get update && apt-get install -y rustc; }
 rustc --edition 2021 -O -o "$out/book" tests/book/main.rs
 "$out/book" crates/test_sessions/data tests/images
 
-# Rust and C call the proved code by its static libraries.
-rt check test_probe stand
-rt staticlib test_probe
+# They call the proved code by its static libraries.
+tools/staticlib.sh test_probe
 rustc --edition 2021 -O -L target/staticlib -o "$out/pasts" tests/pasts/main.rs
 "$out/pasts"
-rt staticlib stand
+tools/staticlib.sh stand
 command -v cc > /dev/null || { apt-get update && apt-get install -y gcc libc6-dev; }
 command -v c++ > /dev/null || { apt-get update && apt-get install -y g++; }
 cc -std=c99 -Wall -Wextra -Werror -O2 -o "$out/header" tests/header/main.c target/staticlib/libstand.a
@@ -49,6 +56,5 @@ for half in "$out/half-1" "$out/half-2"; do
   valgrind --error-exitcode=1 -q --leak-check=full "$out/host" "$out/image" "$half"
 done > "$out/replies"
 cmp "$out/replies" crates/session/stdout
-rm -rf "$out"
 
-exec rt ci
+tail -n 1 "$out/ci"

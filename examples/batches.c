@@ -4,7 +4,7 @@
  * The file has records of 128 bytes; each gets a reply of 50 bytes. If its last record is too short, it is handed over as a single call: a batch takes whole
  * records only, while a single call answers any record, that one with R 02.
  *
- *   rt staticlib stand
+ *   tools/staticlib.sh stand
  *   cc -std=c99 -o batches examples/batches.c target/staticlib/libstand.a */
 #define PROGRAM "batches"
 #include "operations.h"

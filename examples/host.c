@@ -5,7 +5,7 @@
  * before left it, so a session file may be cut after any record and its parts be run one after the other. All that a session needs between two runs is that
  * file: the library keeps nothing. Every refusal is said in words, with exit status 1; the image file is then that of the last batch taken.
  *
- *   rt staticlib stand
+ *   tools/staticlib.sh stand
  *   cc -std=c99 -o host examples/host.c target/staticlib/libstand.a */
 #define PROGRAM "host"
 #include "shared.h"

@@ -6,7 +6,7 @@
  * `records kept: N`, with the N records of the image below; `restore N` the word `restored`. A record on a last line without a newline is handed over as it
  * stands, as one that was cut off.
  *
- *   rt staticlib stand
+ *   tools/staticlib.sh stand
  *   cc -std=c99 -o snapshots examples/snapshots.c target/staticlib/libstand.a */
 #define PROGRAM "snapshots"
 #include "operations.h"

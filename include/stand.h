@@ -1,4 +1,4 @@
-/* The stand monitor for other languages: `rt staticlib stand` writes target/staticlib/libstand.a, for x86-64 Linux.
+/* The stand monitor for other languages: `tools/staticlib.sh stand` writes target/staticlib/libstand.a, for x86-64 Linux.
  *
  * Every call takes any bytes of any length and keeps nothing between calls. Buffers must not overlap; a pointer with length 0 may be any aligned
  * address that is not null. */

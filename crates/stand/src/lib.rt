@@ -24,8 +24,7 @@ use sizes::{SHIFT, all_fit};
 // A batch on the monitor that a host holds as an image: the first `used` records of the image buffer are restored, the batch is run, and the image buffer is rewritten; its bytes
 // past the new image stay. Answers the refusal's number times 4,294,967,296 plus the used number: 0 and the new one; or 13, 12 or 11, looked at in this order, with all buffers
 // as lent and `used` as it was passed.
-#[unsafe(no_mangle)]
-pub extern "C" fn stand_run(image: &mut [u8], used: u32, records: &[u8], replies: &mut [u8]) -> u64
+pub fn stand_run(image: &mut [u8], used: u32, records: &[u8], replies: &mut [u8]) -> u64
     ensures { StandRuns image.old used records.now replies.old image.new replies.new result }
 {
     let end = run_round(image, used, records, replies);
@@ -34,8 +33,7 @@ pub extern "C" fn stand_run(image: &mut [u8], used: u32, records: &[u8], replies
 
 // A whole session from a fresh monitor. Call k has the next lengths[k] bytes of `records` as its record and the next sizes[k] bytes of `replies` as its
 // reply buffer; its number goes to numbers[k]. Answers 0; or 11, where the counts differ or the sizes do not add up to the buffers.
-#[unsafe(no_mangle)]
-pub extern "C" fn stand_session(
+pub fn stand_session(
     records: &[u8],
     lengths: &[u32],
     replies: &mut [u8],
@@ -55,8 +53,7 @@ pub extern "C" fn stand_session(
 // A whole session of operations from a fresh monitor. Operation k is a single call where kinds[k] is 0, a batch where it is 1, keeping where it is 2 and restoring where it is
 // 3; it has the next lengths[k] bytes of `records` and the next sizes[k] bytes of `replies`, its number goes to numbers[k] and how many records keeping wrote to counts[k].
 // Keeping looks at no record, and restoring writes no reply. Answers 0; or 11, where a kind is another, the counts differ or the sizes do not add up to the buffers.
-#[unsafe(no_mangle)]
-pub extern "C" fn stand_operations(
+pub fn stand_operations(
     kinds: &[u8],
     records: &[u8],
     lengths: &[u32],
@@ -85,8 +82,7 @@ pub extern "C" fn stand_operations(
 
 // The judge on the monitor that a sheet leaves: whole records, handed to a fresh monitor in turn, their replies dropped. Answers the refusal's number
 // times 4,294,967,296, and 1 more for yes; 11 where the sheet is not whole records.
-#[unsafe(no_mangle)]
-pub extern "C" fn stand_judge(sheet: &[u8], number: u32, records: &[u8]) -> u64
+pub fn stand_judge(sheet: &[u8], number: u32, records: &[u8]) -> u64
     ensures { result ≡ sheet_judged sheet.now number records.now }
 {
     if sheet.len() % 128 != 0 {

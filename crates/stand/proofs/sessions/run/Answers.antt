@@ -38,11 +38,10 @@ overflow_add-k c =
     record { fits = omega (arith, c.loop-k-test.true) }
 
 pub loop-k-preserved : goal.loop-k-preserved
-loop-k-preserved c =
-    (
-      omega (arith, c.loop-k-test.true),
-      worked _ _ _ _ _ _ _ _ _ _ _ _ _ _ c.loop-k.invariant.1 c.loop-k-test.true _ _ _ _ _ _ c.kind_at-kind.ensures c.as_length.ensures c.as_length-in-loop-k.ensures c.put_count.ensures c.operate-done.ensures c.operate-done.auto.replies,
-    )
+loop-k-preserved c = (
+  omega (arith, c.loop-k-test.true),
+  worked _ _ _ _ _ _ _ _ _ _ _ _ _ _ c.loop-k.invariant.1 c.loop-k-test.true _ _ _ _ _ _ c.kind_at-kind.ensures c.as_length.ensures c.as_length-in-loop-k.ensures c.put_count.ensures c.operate-done.ensures c.operate-done.auto.replies,
+)
 
 pub shape_of-replies : goal.shape_of-replies
 shape_of-replies c = room_same _ _ _ _ _ _ _ _ _ _ _ _ _ _ c.loop-k.invariant.1
