@@ -3,7 +3,7 @@ ghost use Rattle.std.specs.Prelude.{◌≡◌};
 ghost use Rattle.columns.specs.Kinds.{letter_of};
 
 // "`D` declared, `C` committed, `H` held, `U` unfit, `T` too long, `R` refused"
-#[derive(Drop)]
+#[derive(Clone, Copy)]
 pub enum ReplyKind {
     Declared,
     Committed,
