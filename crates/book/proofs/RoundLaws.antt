@@ -6,7 +6,7 @@ use mathlib.Core.List.{List, ◌++◌, map}
 use mathlib.Core.Option.{none, some}
 use Prim.Native.Nat.{ℕ, ◌*◌, ◌/◌, ◌≤◌}
 use native.Mathlib.Omega.{arith}
-use lib.Dec.{eqb, leb}
+use lib.Dec.{eqb}
 use lib.ListN.{length, drop, length-append, length-map, length-drop}
 use lib.Seq.{take_at}
 use borrow.Author.Tests.{eqb-true, eq-eqb, leb-true, le-leb}

@@ -15,7 +15,6 @@ use Rattle.book.specs.Session.{answers, left}
 use Rattle.book.specs.Batches.{BatchOf, batch_fits, batch_calls, batch_taken, batch_by}
 use Rattle.book.specs.Images.{image_of}
 use Rattle.book.specs.Restoring.{restored}
-use Rattle.book.specs.Accepted.{Accepted}
 use Rattle.book.specs.Operations.{Result, answered, kept, replaced, kept_in, restored_or}
 use Rattle.book.specs.SessionBook.{SessionBook, book_operate}
 use Rattle.book.specs.Rounds.{room_records, HostImage, LentBatch, used_records, room_fits, rewritten, round_refused, round_taken, round_step}

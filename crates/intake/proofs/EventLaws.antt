@@ -21,7 +21,6 @@ use Rattle.code.proofs.EventLaws.{names-few}
 use Rattle.common.specs.All.{All}
 use Rattle.patterns.specs.Roles.{all_held}
 use Rattle.follow.specs.State.{event_of}
-use Rattle.follow.specs.declared.state.Event as kept
 use Rattle.follow.specs.declared.state.Sheet.{Sheet}
 use Rattle.follow.proofs.CappedLaws.{capped_small}
 use Rattle.intake.specs.Names.{Name, Event}

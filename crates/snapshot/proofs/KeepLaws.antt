@@ -1,21 +1,16 @@
 -- Laws of keeping: how long an image is, and what a buffer that is long enough or too short comes to.
 -- Assumes nothing.
-use mathlib.Core.Path.{◌≡◌, refl, sym, ap, ap₂, ◌∙◌}
-use mathlib.Core.Bool.{Bool}
-use mathlib.Core.List.{List, [], ◌++◌}
+use mathlib.Core.Path.{◌≡◌, refl, ap, ◌∙◌}
+use mathlib.Core.List.{List, ◌++◌}
 use Prim.Native.Nat.{ℕ, zero, suc, ◌+◌, ◌-◌, ◌*◌, ◌/◌, ◌<◌, ◌≤◌}
 use native.Mathlib.Omega.{arith}
-use lib.ListN.{length, take, drop, length-append}
+use lib.ListN.{length, drop, length-append}
 use lib.Seq.{take_all}
 use borrow.Author.Tests.{le-leb, lt-leb}
 use Rattle.columns.specs.Writing.{fitting, laid, Writes}
-use Rattle.frame.specs.Record.{line_byte}
-use Rattle.grammar.specs.AsRead.{role}
-use Rattle.grammar.specs.LineText.{line_text}
-use Rattle.render.specs.Decoded.{rule_text}
 use Rattle.render.proofs.ReadBack.{record_length}
 use Rattle.book.specs.Images.{mark_record}
-use Rattle.book.specs.Operations.{Result, kept, keep_fits, kept_in}
+use Rattle.book.specs.Operations.{kept, keep_fits, kept_in}
 use Rattle.snapshot.specs.Written.{first_of, role_at, rule_at, marks_at, image_from}
 
 -- so many records of 128 bytes

@@ -1,6 +1,6 @@
 -- Keeping and restoring, by what the functions promise: the results are those of the machine with positions, and the monitor left represents the machine left.
 -- Assumes nothing.
-use mathlib.Core.Path.{◌≡◌, refl, sym, ap, ◌∙◌, subst}
+use mathlib.Core.Path.{◌≡◌, sym, ap, ◌∙◌, subst}
 use mathlib.Core.List.{List}
 use mathlib.Core.Option.{Option, none, some}
 use Prim.Native.Nat.{ℕ}
@@ -8,7 +8,7 @@ use Rattle.follow.specs.declared.state.State.{State}
 use Rattle.intake.specs.Machine.{PositionMachine}
 use Rattle.intake.specs.Represents.{Represents}
 use Rattle.book.specs.Restoring.{restored}
-use Rattle.book.specs.Operations.{Result, keep, restore, kept, replaced, kept_in, restored_or, machine_operate}
+use Rattle.book.specs.Operations.{keep, restore, kept, replaced, kept_in, restored_or, machine_operate}
 use Rattle.snapshot.specs.Written.{KeptAs}
 use Rattle.snapshot.specs.Reading.{RestoredAs, RestoredBy}
 use Rattle.snapshot.proofs.StateImage.{image_of_state}

@@ -20,7 +20,7 @@ use Rattle.follow.proofs.CappedLaws.{capped_small}
 use Rattle.render.specs.Records.{text_record}
 use Rattle.render.proofs.ReadBack.{rule-text}
 use Rattle.intake.specs.Machine.{PositionRule, PositionMachine}
-use Rattle.intake.specs.Represents.{name_at, RuleIs, PositionRuleIs, Rules, rules-none, rules-more, Represents}
+use Rattle.intake.specs.Represents.{name_at, PositionRuleIs, Rules, rules-none, rules-more, Represents}
 use Rattle.intake.proofs.Naming.{roles-capped}
 use Rattle.intake.proofs.TakenNames.{roles-long}
 use Rattle.book.specs.Names.{Name, Roles}

@@ -11,7 +11,7 @@ use Rattle.follow.specs.declared.state.State.{State}
 use Rattle.render.specs.Decoded.{rule_text}
 use Rattle.render.specs.Records.{text_record, line_record}
 use Rattle.book.specs.Images.{digits, mark_record}
-use Rattle.book.specs.Operations.{Result, kept, kept_in}
+use Rattle.book.specs.Operations.{kept, kept_in}
 use Rattle.snapshot.specs.declared.keeping.Kept.{Kept}
 
 -- the first n records of f, one after the other

@@ -13,7 +13,7 @@ use Rattle.book.specs.Decide.{Answer}
 use Rattle.book.specs.Book.{fresh_book, book_step}
 use Rattle.book.specs.Session.{answers}
 use Rattle.book.specs.Batches.{buffers}
-use Rattle.book.specs.Operations.{Operation, call, Result, answered, kept, replaced}
+use Rattle.book.specs.Operations.{call, answered, kept, replaced}
 use Rattle.book.specs.SessionBook.{fresh_session, book_operate}
 use Rattle.book.proofs.Runs.{answers-long}
 use Rattle.book.proofs.Whole.{calls_alone}
@@ -25,7 +25,7 @@ use Rattle.snapshot.specs.Reading.{Restores}
 use Rattle.snapshot.specs.declared.keeping.Kept.{Kept}
 use Rattle.stand.specs.Operations.{by_call, by_batch, by_keep, by_restore, Ran}
 use Rattle.stand.specs.Calls.{calls_of, book_answers, Fit, SessionAnswered, SessionRun}
-use Rattle.stand.specs.Kinds.{parts_of, operation_in, operations_of, all_known, number_in, buffers_of, DoneAs, book_results, OperationsFit, OperationsAnswered, OperationsRun}
+use Rattle.stand.specs.Kinds.{parts_of, operations_of, all_known, number_in, buffers_of, DoneAs, book_results, OperationsFit, OperationsAnswered, OperationsRun}
 use Rattle.stand.proofs.SizeLaws.{drop_here}
 
 -- WHETHER ALL ARE KNOWN

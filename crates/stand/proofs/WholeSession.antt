@@ -2,7 +2,6 @@
 -- Assumes nothing.
 use mathlib.Core.Path.{◌≡◌, refl, sym, ap, ◌∙◌, subst}
 use mathlib.Core.List.{List, [], ◌∷◌, map}
-use Prim.Native.Nat.{ℕ}
 use Rattle.follow.specs.declared.state.State.{State}
 use Rattle.book.specs.Decide.{Call, Answer}
 use Rattle.book.specs.Book.{fresh_book, book_step}

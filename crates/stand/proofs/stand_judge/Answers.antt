@@ -1,6 +1,5 @@
 -- `stand_judge` asks the judge on the monitor that the sheet leaves.
 -- Assumes nothing.
-use borrow.Author.Rules.{rules}
 use Rattle.stand.proofs.SheetLaws.{sheet_uneven, sheet-whole}
 use Rattle.stand.proofs.stand_judge.Goals as goal
 

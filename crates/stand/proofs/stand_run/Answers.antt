@@ -1,6 +1,5 @@
 -- `stand_run` hands back the two numbers of a round in one.
 -- Assumes nothing.
-use borrow.Author.Rules.{rules}
 use Rattle.stand.proofs.HostSessions.{one_number}
 use Rattle.stand.proofs.stand_run.Goals as goal
 

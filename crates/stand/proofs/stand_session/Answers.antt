@@ -2,7 +2,6 @@
 -- Assumes nothing.
 use mathlib.Core.Bool.{not}
 use mathlib.Core.Path.{ap}
-use borrow.Author.Rules.{rules}
 use Rattle.stand.proofs.SizeLaws.{fit_told, unfit-told}
 use Rattle.stand.proofs.KindLaws.{session-refused, session-taken}
 use Rattle.stand.proofs.stand_session.Goals as goal

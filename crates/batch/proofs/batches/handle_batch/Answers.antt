@@ -1,14 +1,8 @@
 -- `handle_batch` makes the single calls of a batch in turn: `Progress` holds before each. The measure is the bytes left.
 -- Assumes nothing.
-use mathlib.Core.Path.{◌≡◌, sym, ◌∙◌}
-use mathlib.Core.Bool.{true}
-use Prim.Native.Nat.{◌-◌}
-use borrow.Author.Rules.{rules}
-use borrow.Author.Tests.{not-true, not-false}
+use mathlib.Core.Path.{sym, ◌∙◌}
 use native.Mathlib.Omega.{arith}
-use lib.ListN.{length}
-use Rattle.book.specs.Batches.{batch_fits}
-use Rattle.batch.proofs.BatchLaws.{Progress, begun, record_there, room_there, room_same, called, finished, turned_away_lem}
+use Rattle.batch.proofs.BatchLaws.{begun, record_there, room_there, room_same, called, finished, turned_away_lem}
 use Rattle.batch.proofs.batches.handle_batch.Goals as goal
 
 pub returns-then-not-fits : goal.returns-then-not-fits

@@ -1,12 +1,9 @@
-use mathlib.Core.Path.{◌≡◌, sym, ◌∙◌}
+use mathlib.Core.Path.{◌≡◌}
 use mathlib.Core.Bool.{true}
 use Prim.Native.Nat.{◌-◌}
-use borrow.Author.Rules.{rules}
-use borrow.Author.Tests.{not-true, not-false}
-use native.Mathlib.Omega.{arith}
 use lib.ListN.{length}
 use Rattle.book.specs.Batches.{batch_fits}
-use Rattle.batch.proofs.BatchLaws.{Progress, begun, record_there, room_there, room_same, called, finished, turned_away_lem}
+use Rattle.batch.proofs.BatchLaws.{Progress}
 use Rattle.batch.proofs.batches.handle_batch.Given as goal
 
 abbrev pub invariant-loop-at : goal.invariant-loop-at

@@ -1,6 +1,5 @@
 -- `fits` looks at the three things that 11 names, one by one.
 -- Assumes nothing.
-use borrow.Author.Rules.{rules}
 use Rattle.batch.proofs.SizeLaws.{part_of_record, too_many, by_replies}
 use Rattle.batch.proofs.sizes.fits.Goals as goal
 

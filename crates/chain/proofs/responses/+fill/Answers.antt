@@ -1,7 +1,6 @@
 -- `fill` meets its contract: a law of FillLaws for each way out. What falls is the room in the event.
 -- Assumes nothing.
 use mathlib.Core.Path.{◌≡◌}
-use Prim.Native.Nat.{ℕ, ◌<◌, ◌-◌}
 use lib.ListN.{length}
 use borrow.Author.Rules.{rules}
 use Rattle.chain.proofs.FillLaws.{fill_end, fill_closed, fill-full, fill-unfit, fill_more}

@@ -1,8 +1,4 @@
-use mathlib.Core.Path.{◌≡◌}
-use Prim.Native.Nat.{ℕ, ◌<◌, ◌-◌}
-use lib.ListN.{length}
-use borrow.Author.Rules.{rules}
-use Rattle.chain.proofs.FillLaws.{fill_end, fill_closed, fill-full, fill-unfit, fill_more}
+use Prim.Native.Nat.{◌-◌}
 use Rattle.chain.proofs.responses.+fill.Given as goal
 
 abbrev pub decreases-fill : goal.decreases-fill

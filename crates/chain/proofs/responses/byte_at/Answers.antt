@@ -1,6 +1,5 @@
 -- `byte_at` meets its contract.
 -- Assumes nothing.
-use borrow.Author.Rules.{rules}
 use Rattle.chain.proofs.FillLaws.{past_end}
 use Rattle.chain.proofs.responses.byte_at.Goals as goal
 

@@ -1,6 +1,5 @@
 -- `respond` meets its contract: a law of RespondLaws for each way out.
 -- Assumes nothing.
-use borrow.Author.Rules.{rules}
 use Rattle.chain.proofs.RespondLaws.{respond-none, respond-pass, respond-hold, respond-send, respond-anew}
 use Rattle.chain.proofs.responses.respond.Goals as goal
 

@@ -1,6 +1,5 @@
 -- `slot` meets its contract: a law of FillLaws for each way out.
 -- Assumes nothing.
-use borrow.Author.Rules.{rules}
 use Rattle.chain.proofs.FillLaws.{slot_none, slot_mark, slot_role, slot_beyond, slot_place}
 use Rattle.chain.proofs.responses.slot.Goals as goal
 

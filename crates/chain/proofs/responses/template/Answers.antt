@@ -2,7 +2,6 @@
 -- Assumes nothing.
 use mathlib.Core.Path.{refl, sym}
 use lib.Seq.{length-take-le}
-use borrow.Author.Rules.{rules}
 use Rattle.chain.proofs.FillLaws.{template-right}
 use Rattle.chain.proofs.responses.template.Goals as goal
 

@@ -1,6 +1,5 @@
 -- `begin` meets its contract.
 -- Assumes nothing.
-use borrow.Author.Rules.{rules}
 use Rattle.chain.proofs.run.begin.Goals as goal
 
 pub returns : goal.returns

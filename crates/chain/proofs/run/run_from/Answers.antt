@@ -1,11 +1,8 @@
 -- `run_from` meets its contract: steps to an end from here are, with those made, steps from the start. What falls is the budget of 64.
 -- Assumes nothing.
-use Prim.Native.Nat.{◌-◌}
 use native.Mathlib.Omega.{arith}
-use borrow.Author.Rules.{rules}
-use Rattle.chain.specs.Duties.{viewed}
 use Rattle.chain.proofs.StepLaws.{step-more}
-use Rattle.chain.proofs.RunLaws.{Underway, start, further, over}
+use Rattle.chain.proofs.RunLaws.{start, further, over}
 use Rattle.chain.proofs.run.run_from.Goals as goal
 
 pub loop-w-init : goal.loop-w-init

@@ -1,9 +1,6 @@
 use Prim.Native.Nat.{◌-◌}
-use native.Mathlib.Omega.{arith}
-use borrow.Author.Rules.{rules}
 use Rattle.chain.specs.Duties.{viewed}
-use Rattle.chain.proofs.StepLaws.{step-more}
-use Rattle.chain.proofs.RunLaws.{Underway, start, further, over}
+use Rattle.chain.proofs.RunLaws.{Underway}
 use Rattle.chain.proofs.run.run_from.Given as goal
 
 abbrev pub invariant-loop-w : goal.invariant-loop-w

@@ -1,6 +1,5 @@
 -- `work_event` meets its contract.
 -- Assumes nothing.
-use borrow.Author.Rules.{rules}
 use Rattle.chain.proofs.KeptLaws.{worked}
 use Rattle.chain.proofs.run.work_event.Goals as goal
 

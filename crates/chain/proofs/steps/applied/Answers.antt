@@ -1,6 +1,5 @@
 -- `applied` meets its contract.
 -- Assumes nothing.
-use borrow.Author.Rules.{rules}
 use Rattle.chain.proofs.steps.applied.Goals as goal
 
 pub returns : goal.returns

@@ -1,7 +1,6 @@
 -- `due` meets its contract: a law of FindLaws for each way out.
 -- Assumes nothing.
 use mathlib.Core.Path.{sym, ◌∙◌}
-use borrow.Author.Rules.{rules}
 use Rattle.chain.proofs.FindLaws.{due_off, due_judged}
 use Rattle.chain.proofs.steps.due.Goals as goal
 

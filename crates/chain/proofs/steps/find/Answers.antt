@@ -1,8 +1,6 @@
 -- `find` meets its contract: no rule from i on is due. What falls is i.
 -- Assumes nothing.
-use borrow.Author.Rules.{rules}
-use Rattle.chain.specs.Duties.{viewed}
-use Rattle.chain.proofs.FindLaws.{Sought, start, nothing, found, onward}
+use Rattle.chain.proofs.FindLaws.{start, nothing, found, onward}
 use Rattle.chain.proofs.steps.find.Goals as goal
 
 pub loop-i-init : goal.loop-i-init

@@ -1,6 +1,5 @@
-use borrow.Author.Rules.{rules}
 use Rattle.chain.specs.Duties.{viewed}
-use Rattle.chain.proofs.FindLaws.{Sought, start, nothing, found, onward}
+use Rattle.chain.proofs.FindLaws.{Sought}
 use Rattle.chain.proofs.steps.find.Given as goal
 
 abbrev pub invariant-loop-i : goal.invariant-loop-i

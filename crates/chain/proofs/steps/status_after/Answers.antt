@@ -1,6 +1,5 @@
 -- `status_after` meets its contract.
 -- Assumes nothing.
-use borrow.Author.Rules.{rules}
 use Rattle.chain.proofs.steps.status_after.Goals as goal
 
 pub returns-in-Pass : goal.returns-in-Pass

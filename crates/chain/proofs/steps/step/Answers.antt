@@ -3,7 +3,6 @@
 use mathlib.Core.Path.{◌≡◌, sym, ap, ◌∙◌}
 use Prim.Native.Nat.{ℕ}
 use lib.Seq.{length-take-le}
-use borrow.Author.Rules.{rules}
 use Rattle.follow.specs.State.{capped}
 use Rattle.chain.proofs.StepLaws.{ended, too_long_lem, stepped}
 use Rattle.chain.proofs.steps.step.Goals as goal

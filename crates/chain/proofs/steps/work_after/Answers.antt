@@ -1,7 +1,6 @@
 -- `work_after` meets its contract.
 -- Assumes nothing.
 use mathlib.Core.Path.{sym, ◌∙◌}
-use borrow.Author.Rules.{rules}
 use Rattle.chain.proofs.steps.work_after.Goals as goal
 
 pub returns-then-is_anew : goal.returns-then-is_anew

@@ -2,7 +2,6 @@
 -- Assumes nothing.
 use mathlib.Core.Path.{sym, ◌∙◌}
 use lib.Seq.{length-take-le}
-use borrow.Author.Rules.{rules}
 use Rattle.follow.proofs.CappedLaws.{capped-take}
 use Rattle.intake.proofs.AskLaws.{ask_line, ask_event, ask_short, ask_malformed}
 use Rattle.intake.proofs.asks.ask.Goals as goal

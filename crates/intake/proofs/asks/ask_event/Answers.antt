@@ -1,6 +1,5 @@
 -- `ask_event` meets its contract: a law of EventLaws for each answer.
 -- Assumes nothing.
-use borrow.Author.Rules.{rules}
 use Rattle.intake.proofs.EventLaws.{event-none, event_unknown, event-known}
 use Rattle.intake.proofs.asks.ask_event.Goals as goal
 

@@ -2,7 +2,6 @@
 -- Assumes nothing.
 use mathlib.Core.Path.{sym}
 use lib.Seq.{length-take-le}
-use borrow.Author.Rules.{rules}
 use Rattle.follow.proofs.CappedLaws.{capped-take}
 use Rattle.intake.proofs.lines.read_role.Goals as goal
 

@@ -1,6 +1,5 @@
 -- `judge` meets its contract: 9, 10, and the list.
 -- Assumes nothing.
-use borrow.Author.Rules.{rules}
 use Rattle.judge.proofs.JudgeLaws.{judged_none, judged_part, part_uneven, part_long, judged_list}
 use Rattle.judge.proofs.judging.judge.Goals as goal
 

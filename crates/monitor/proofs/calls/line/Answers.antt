@@ -1,7 +1,6 @@
 -- `line` meets its contract.
 -- Assumes nothing.
 use mathlib.Core.Path.{refl}
-use borrow.Author.Rules.{rules}
 use Rattle.monitor.proofs.calls.line.Goals as goal
 
 pub returns : goal.returns

@@ -1,6 +1,5 @@
 -- `new` meets its contract.
 -- Assumes nothing.
-use borrow.Author.Rules.{rules}
 use Rattle.intake.proofs.FreshState.{fresh-represents}
 use Rattle.monitor.proofs.calls.new.Goals as goal
 

@@ -1,6 +1,5 @@
 -- `ended_reply` meets its contract.
 -- Assumes nothing.
-use borrow.Author.Rules.{rules}
 use Rattle.monitor.proofs.EventLaws.{ended_is}
 use Rattle.monitor.proofs.events.ended_reply.Goals as goal
 

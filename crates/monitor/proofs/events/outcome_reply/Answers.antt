@@ -1,7 +1,6 @@
 -- `outcome_reply` meets its contract: a law of EventLaws for each way that the work ended.
 -- Assumes nothing.
 use Rattle.monitor.proofs.EventLaws.{ended_as, replied_committed, replied_held, replied_unfit, replied_long}
-use borrow.Author.Rules.{rules}
 use Rattle.monitor.proofs.events.outcome_reply.Goals as goal
 
 pub returns-in-Committed : goal.returns-in-Committed

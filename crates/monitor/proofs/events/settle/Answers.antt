@@ -3,7 +3,6 @@
 use mathlib.Core.Path.{refl, sym, ◌∙◌}
 use lib.Seq.{length-take-le}
 use Rattle.monitor.proofs.EventLaws.{recorded_moved, recorded_still}
-use borrow.Author.Rules.{rules}
 use Rattle.monitor.proofs.events.settle.Goals as goal
 
 pub slice_bounds-roles-end : goal.slice_bounds-roles-end

@@ -1,6 +1,5 @@
 -- `line_reply` meets its contract.
 -- Assumes nothing.
-use borrow.Author.Rules.{rules}
 use Rattle.monitor.proofs.AnswerLaws.{line-declared, line_refused}
 use Rattle.monitor.proofs.replies.line_reply.Goals as goal
 

@@ -1,6 +1,5 @@
 -- `refused` meets its contract.
 -- Assumes nothing.
-use borrow.Author.Rules.{rules}
 use Rattle.monitor.proofs.AnswerLaws.{refused-written}
 use Rattle.monitor.proofs.replies.refused.Goals as goal
 

@@ -1,8 +1,7 @@
 -- `keyword` meets its contract: each letter's keyword, and nothing for any other byte.
 -- Assumes nothing.
 use mathlib.Core.Path.{sym}
-use borrow.Author.Rules.{rules}
-use Rattle.columns.proofs.WriteLaws.{writes_none, writes_same, writes_length}
+use Rattle.columns.proofs.WriteLaws.{writes_none, writes_same}
 use Rattle.render.specs.Decoded.{keyword_of}
 use Rattle.render.proofs.ByteLaws.{key_none}
 use Rattle.render.proofs.CodeLaws.{keyword_written}

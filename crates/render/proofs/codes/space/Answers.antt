@@ -1,6 +1,5 @@
 -- `space` meets its contract: a space where two words meet, and else nothing.
 -- Assumes nothing.
-use borrow.Author.Rules.{rules}
 use Rattle.columns.proofs.WriteLaws.{writes_length}
 use Rattle.render.proofs.CodeLaws.{gap_between, gap_before_mark, gap_after_mark}
 use Rattle.render.proofs.codes.space.Goals as goal

@@ -1,7 +1,6 @@
 -- `token` meets its contract: a name by its id, a keyword by its letter, and a digit or a mark by itself.
 -- Assumes nothing.
 use mathlib.Core.Path.{sym, ap, ◌∙◌}
-use borrow.Author.Rules.{rules}
 use Rattle.names.specs.Unpacked.{unpacked}
 use Rattle.columns.proofs.WriteLaws.{writes_same, writes_length}
 use Rattle.render.proofs.ByteLaws.{bytes-name, bytes_low, bytes_high, bytes_key}

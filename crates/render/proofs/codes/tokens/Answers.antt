@@ -1,11 +1,7 @@
 -- `tokens` meets its contract: the code before i is written. What falls is the code left.
 -- Assumes nothing.
-use Prim.Native.Nat.{◌-◌}
-use lib.ListN.{length}
-use borrow.Author.Rules.{rules}
 use Rattle.columns.proofs.WriteLaws.{writes_length}
-use Rattle.render.specs.Decoded.{name_in}
-use Rattle.render.proofs.CodeLaws.{Going, going_start, going_more, going_end}
+use Rattle.render.proofs.CodeLaws.{going_start, going_more, going_end}
 use Rattle.render.proofs.codes.tokens.Goals as goal
 
 pub loop-i-init : goal.loop-i-init

@@ -1,9 +1,7 @@
 use Prim.Native.Nat.{◌-◌}
 use lib.ListN.{length}
-use borrow.Author.Rules.{rules}
-use Rattle.columns.proofs.WriteLaws.{writes_length}
 use Rattle.render.specs.Decoded.{name_in}
-use Rattle.render.proofs.CodeLaws.{Going, going_start, going_more, going_end}
+use Rattle.render.proofs.CodeLaws.{Going}
 use Rattle.render.proofs.codes.tokens.Given as goal
 
 abbrev pub invariant-loop-i : goal.invariant-loop-i

@@ -1,6 +1,5 @@
 -- `role_record` meets its contract: the four parts one after the other over spaces, and the newline.
 -- Assumes nothing.
-use borrow.Author.Rules.{rules}
 use Rattle.render.proofs.RecordLaws.{role-written}
 use Rattle.render.proofs.lines.role_record.Goals as goal
 

@@ -1,6 +1,5 @@
 -- `rule_record` meets its contract: `rule`, the name, `:` and the code's tokens one after the other over spaces, and the newline.
 -- Assumes nothing.
-use borrow.Author.Rules.{rules}
 use Rattle.render.proofs.RecordLaws.{rule-written}
 use Rattle.render.proofs.lines.rule_record.Goals as goal
 

@@ -1,6 +1,5 @@
 -- `run_round` goes one of the four ways, each by what the functions called promise.
 -- Assumes nothing.
-use borrow.Author.Rules.{rules}
 use mathlib.Core.Bool.{not}
 use mathlib.Core.Path.{sym, ap}
 use lib.Seq.{length-take-le}

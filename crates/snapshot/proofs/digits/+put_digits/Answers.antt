@@ -2,8 +2,7 @@
 -- Assumes nothing.
 use mathlib.Core.Path.{sym, ap, ◌∙◌}
 use mathlib.Core.List.{[], ◌∷◌, ◌++◌}
-use Prim.Native.Nat.{ℕ, ◌<◌, ◌-◌, ◌/◌}
-use borrow.Author.Rules.{rules}
+use Prim.Native.Nat.{ℕ, ◌-◌, ◌/◌}
 use Rattle.columns.proofs.WriteLaws.{writes_none, writes_then, writes_same}
 use Rattle.book.specs.Images.{hex_of}
 use Rattle.snapshot.proofs.DigitLaws.{hex_none, hex_last}

@@ -1,7 +1,6 @@
 -- `hex_digit` meets its contract: a law for each half of the digits.
 -- Assumes nothing.
 use mathlib.Core.Path.{sym}
-use borrow.Author.Rules.{rules}
 use Rattle.snapshot.proofs.DigitLaws.{digit_low, digit_high}
 use Rattle.snapshot.proofs.digits.hex_digit.Goals as goal
 

@@ -2,7 +2,6 @@
 -- Assumes nothing.
 use mathlib.Core.Path.{sym}
 use native.Mathlib.Omega.{arith}
-use borrow.Author.Rules.{rules}
 use Rattle.snapshot.proofs.DigitLaws.{value_low, value_high, value_before, value_between, value_after}
 use Rattle.snapshot.proofs.digits.hex_value.Goals as goal
 

@@ -1,10 +1,9 @@
 -- `marks_in` meets its contract: the columns before i are read. What falls is the columns left.
 -- Assumes nothing.
 use mathlib.Core.Path.{◌≡◌, refl, ap, ◌∙◌}
-use Prim.Native.Nat.{ℕ, ◌-◌, ◌≤◌}
+use Prim.Native.Nat.{ℕ}
 use native.Mathlib.Omega.{arith}
 use lib.ListN.{get_or}
-use borrow.Author.Rules.{rules}
 use Rattle.book.proofs.MarkRecords.{hex_below}
 use Rattle.snapshot.proofs.DigitLaws.{up_to, up_to-more, up_to-below, up_to-short, up_to-all}
 use Rattle.snapshot.proofs.digits.marks_in.Goals as goal

@@ -1,6 +1,5 @@
 -- `in_order` meets its contract: no rule yet, no role more, or a role after a rule.
 -- Assumes nothing.
-use borrow.Author.Rules.{rules}
 use Rattle.snapshot.proofs.LineLaws.{in_order_first, in_order_same, in_order_late}
 use Rattle.snapshot.proofs.lines.in_order.Goals as goal
 

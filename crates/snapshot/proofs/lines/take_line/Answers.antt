@@ -1,6 +1,5 @@
 -- `take_line` meets its contract: a law for each kind of record.
 -- Assumes nothing.
-use borrow.Author.Rules.{rules}
 use Rattle.snapshot.proofs.LineLaws.{line_turned, event_turned, line_taken}
 use Rattle.snapshot.proofs.lines.take_line.Goals as goal
 

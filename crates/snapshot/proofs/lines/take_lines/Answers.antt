@@ -1,9 +1,7 @@
 -- `take_lines` meets its contract: the lines before a place are taken. What falls is the bytes left.
 -- Assumes nothing.
-use Prim.Native.Nat.{◌≤◌, ◌-◌}
 use borrow.Author.Rules.{rules}
-use lib.ListN.{length}
-use Rattle.snapshot.proofs.LinesLaws.{TakenTo, taken_none, taken-all, taken-others, taken_more, taken_not}
+use Rattle.snapshot.proofs.LinesLaws.{taken_none, taken-all, taken-others, taken_more, taken_not}
 use Rattle.snapshot.proofs.lines.take_lines.Goals as goal
 
 pub loop-at-init : goal.loop-at-init

@@ -1,7 +1,6 @@
 use Prim.Native.Nat.{◌≤◌, ◌-◌}
-use borrow.Author.Rules.{rules}
 use lib.ListN.{length}
-use Rattle.snapshot.proofs.LinesLaws.{TakenTo, taken_none, taken-all, taken-others, taken_more, taken_not}
+use Rattle.snapshot.proofs.LinesLaws.{TakenTo}
 use Rattle.snapshot.proofs.lines.take_lines.Given as goal
 
 abbrev pub invariant-loop-at : goal.invariant-loop-at

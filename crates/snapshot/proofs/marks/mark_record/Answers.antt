@@ -1,6 +1,5 @@
 -- `mark_record` meets its contract: its parts one after the other, and the newline.
 -- Assumes nothing.
-use borrow.Author.Rules.{rules}
 use Rattle.book.specs.Images.{digits}
 use Rattle.names.proofs.UnpackedLaws.{unpacked-length}
 use Rattle.snapshot.proofs.MarkLaws.{mark-written}

@@ -3,7 +3,6 @@
 use mathlib.Core.Path.{sym, ap, ◌∙◌}
 use mathlib.Core.List.{List}
 use Prim.Native.Nat.{ℕ}
-use borrow.Author.Rules.{rules}
 use Rattle.lexer.specs.Words.{same}
 use Rattle.names.specs.Unpacked.{unpacked}
 use Rattle.snapshot.proofs.MarkLaws.{read_same, read_other}

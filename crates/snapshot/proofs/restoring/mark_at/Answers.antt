@@ -1,6 +1,5 @@
 -- `mark_at` meets its contract: the name, the number of patterns and the record, each by its call.
 -- Assumes nothing.
-use borrow.Author.Rules.{rules}
 use Rattle.snapshot.proofs.TakingLaws.{mark_by}
 use Rattle.snapshot.proofs.restoring.mark_at.Goals as goal
 

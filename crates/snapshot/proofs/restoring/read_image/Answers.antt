@@ -1,6 +1,5 @@
 -- `read_image` meets its contract: not whole records, a line that is refused, or the marks that are given.
 -- Assumes nothing.
-use borrow.Author.Rules.{rules}
 use Rattle.snapshot.proofs.ImageLaws.{image_uneven, image_refused, image_marked}
 use Rattle.snapshot.proofs.restoring.read_image.Goals as goal
 

@@ -1,6 +1,5 @@
 -- `restore` meets its contract: the image is accepted, or turned away.
 -- Assumes nothing.
-use borrow.Author.Rules.{rules}
 use Rattle.snapshot.proofs.ImageLaws.{image_accepted, image_turned}
 use Rattle.snapshot.proofs.restoring.restore.Goals as goal
 

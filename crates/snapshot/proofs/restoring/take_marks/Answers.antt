@@ -1,10 +1,7 @@
 -- `take_marks` meets its contract: the marks of the rules before i are read. What falls is the rules left.
 -- Assumes nothing.
-use Prim.Native.Nat.{◌-◌}
-use borrow.Author.Rules.{rules}
 use borrow.Author.Tests.{not-true, not-false}
-use Rattle.snapshot.specs.Reading.{mark_at}
-use Rattle.snapshot.proofs.TakingLaws.{Going, start, onward, finish, turned, full}
+use Rattle.snapshot.proofs.TakingLaws.{start, onward, finish, turned, full}
 use Rattle.snapshot.proofs.restoring.take_marks.Goals as goal
 
 pub loop-i-init : goal.loop-i-init

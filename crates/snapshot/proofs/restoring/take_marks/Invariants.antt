@@ -1,8 +1,6 @@
 use Prim.Native.Nat.{◌-◌}
-use borrow.Author.Rules.{rules}
-use borrow.Author.Tests.{not-true, not-false}
 use Rattle.snapshot.specs.Reading.{mark_at}
-use Rattle.snapshot.proofs.TakingLaws.{Going, start, onward, finish, turned, full}
+use Rattle.snapshot.proofs.TakingLaws.{Going}
 use Rattle.snapshot.proofs.restoring.take_marks.Given as goal
 
 abbrev pub invariant-loop-i : goal.invariant-loop-i

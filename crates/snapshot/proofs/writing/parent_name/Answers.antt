@@ -3,7 +3,6 @@
 use mathlib.Core.Path.{sym, ap, ◌∙◌}
 use Prim.Native.Nat.{ℕ}
 use lib.ListN.{get_or, get_or-eq_default}
-use borrow.Author.Rules.{rules}
 use Rattle.snapshot.proofs.writing.parent_name.Goals as goal
 
 pub returns-then-i-parents : goal.returns-then-i-parents

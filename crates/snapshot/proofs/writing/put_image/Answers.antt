@@ -1,6 +1,5 @@
 -- `put_image` meets its contract: its three parts one after the other.
 -- Assumes nothing.
-use borrow.Author.Rules.{rules}
 use Rattle.columns.proofs.WriteLaws.{writes_then}
 use Rattle.snapshot.specs.Written.{image_from}
 use Rattle.snapshot.proofs.writing.put_image.Goals as goal

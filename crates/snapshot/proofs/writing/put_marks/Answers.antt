@@ -3,11 +3,9 @@
 use mathlib.Core.Path.{ap₂, ◌∙◌}
 use Rattle.names.specs.Unpacked.{unpacked}
 use Rattle.book.specs.Images.{digits, mark_record}
-use Prim.Native.Nat.{ℕ, ◌-◌}
-use borrow.Author.Rules.{rules}
+use Prim.Native.Nat.{ℕ}
 use Rattle.columns.proofs.WriteLaws.{writes_length}
-use Rattle.snapshot.specs.Written.{marks_at}
-use Rattle.snapshot.proofs.WrittenLaws.{Going, going_start, going_more, going_end}
+use Rattle.snapshot.proofs.WrittenLaws.{going_start, going_more, going_end}
 use Rattle.snapshot.proofs.writing.put_marks.Goals as goal
 
 pub loop-i-init : goal.loop-i-init

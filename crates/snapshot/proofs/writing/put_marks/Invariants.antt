@@ -1,11 +1,6 @@
-use mathlib.Core.Path.{ap₂, ◌∙◌}
-use Rattle.names.specs.Unpacked.{unpacked}
-use Rattle.book.specs.Images.{digits, mark_record}
-use Prim.Native.Nat.{ℕ, ◌-◌}
-use borrow.Author.Rules.{rules}
-use Rattle.columns.proofs.WriteLaws.{writes_length}
+use Prim.Native.Nat.{◌-◌}
 use Rattle.snapshot.specs.Written.{marks_at}
-use Rattle.snapshot.proofs.WrittenLaws.{Going, going_start, going_more, going_end}
+use Rattle.snapshot.proofs.WrittenLaws.{Going}
 use Rattle.snapshot.proofs.writing.put_marks.Given as goal
 
 abbrev pub invariant-loop-i : goal.invariant-loop-i

@@ -6,11 +6,10 @@ use lib.ListN.{get_or}
 use Rattle.names.specs.Unpacked.{unpacked}
 use Rattle.grammar.specs.AsRead.{role}
 use Rattle.render.specs.Records.{line_record}
-use Prim.Native.Nat.{ℕ, ◌-◌}
-use borrow.Author.Rules.{rules}
+use Prim.Native.Nat.{ℕ}
 use Rattle.columns.proofs.WriteLaws.{writes_length}
-use Rattle.snapshot.specs.Written.{parent_in, role_at}
-use Rattle.snapshot.proofs.WrittenLaws.{Going, going_start, going_more, going_end}
+use Rattle.snapshot.specs.Written.{parent_in}
+use Rattle.snapshot.proofs.WrittenLaws.{going_start, going_more, going_end}
 use Rattle.snapshot.proofs.writing.put_roles.Goals as goal
 
 pub loop-i-init : goal.loop-i-init

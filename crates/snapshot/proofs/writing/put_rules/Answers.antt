@@ -6,11 +6,9 @@ use Rattle.frame.specs.Record.{line_byte}
 use Rattle.follow.specs.Rows.{code_of}
 use Rattle.render.specs.Decoded.{rule_text}
 use Rattle.render.specs.Records.{text_record}
-use Prim.Native.Nat.{ℕ, ◌-◌}
-use borrow.Author.Rules.{rules}
+use Prim.Native.Nat.{ℕ}
 use Rattle.columns.proofs.WriteLaws.{writes_length}
-use Rattle.snapshot.specs.Written.{rule_at}
-use Rattle.snapshot.proofs.WrittenLaws.{Going, going_start, going_more, going_end}
+use Rattle.snapshot.proofs.WrittenLaws.{going_start, going_more, going_end}
 use Rattle.snapshot.proofs.writing.put_rules.Goals as goal
 
 pub loop-i-init : goal.loop-i-init

@@ -1,14 +1,6 @@
-use mathlib.Core.Path.{ap, ap₂, ◌∙◌}
-use mathlib.Core.List.{List}
-use Rattle.frame.specs.Record.{line_byte}
-use Rattle.follow.specs.Rows.{code_of}
-use Rattle.render.specs.Decoded.{rule_text}
-use Rattle.render.specs.Records.{text_record}
-use Prim.Native.Nat.{ℕ, ◌-◌}
-use borrow.Author.Rules.{rules}
-use Rattle.columns.proofs.WriteLaws.{writes_length}
+use Prim.Native.Nat.{◌-◌}
 use Rattle.snapshot.specs.Written.{rule_at}
-use Rattle.snapshot.proofs.WrittenLaws.{Going, going_start, going_more, going_end}
+use Rattle.snapshot.proofs.WrittenLaws.{Going}
 use Rattle.snapshot.proofs.writing.put_rules.Given as goal
 
 abbrev pub invariant-loop-i : goal.invariant-loop-i

@@ -1,9 +1,7 @@
 -- `after` takes in the whole records of a sheet in turn. The measure is the bytes left.
 -- Assumes nothing.
-use Prim.Native.Nat.{◌≤◌, ◌-◌}
 use borrow.Author.Rules.{rules}
-use lib.ListN.{length}
-use Rattle.stand.proofs.SheetLaws.{ReadTo, read_none, read_more, read_all}
+use Rattle.stand.proofs.SheetLaws.{read_none, read_more, read_all}
 use Rattle.stand.proofs.judging.after.Goals as goal
 
 pub loop-at-init : goal.loop-at-init

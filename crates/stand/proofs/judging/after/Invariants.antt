@@ -1,7 +1,6 @@
 use Prim.Native.Nat.{◌≤◌, ◌-◌}
-use borrow.Author.Rules.{rules}
 use lib.ListN.{length}
-use Rattle.stand.proofs.SheetLaws.{ReadTo, read_none, read_more, read_all}
+use Rattle.stand.proofs.SheetLaws.{ReadTo}
 use Rattle.stand.proofs.judging.after.Given as goal
 
 abbrev pub invariant-loop-at : goal.invariant-loop-at

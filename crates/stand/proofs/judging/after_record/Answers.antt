@@ -1,6 +1,5 @@
 -- `after_record` hands the record to the monitor with a buffer of 50 bytes.
 -- Assumes nothing.
-use borrow.Author.Rules.{rules}
 use Rattle.stand.proofs.judging.after_record.Goals as goal
 
 pub returns : goal.returns

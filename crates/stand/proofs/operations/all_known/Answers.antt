@@ -1,10 +1,7 @@
 -- `all_known` looks at the kinds one by one. The measure is the kinds left.
 -- Assumes nothing.
-use mathlib.Core.Path.{◌≡◌, refl}
-use Prim.Native.Nat.{◌-◌, ◌≤◌}
+use mathlib.Core.Path.{refl}
 use borrow.Author.Rules.{rules}
-use lib.ListN.{length, drop}
-use Rattle.stand.specs.Kinds.{all_known}
 use Rattle.stand.proofs.KindLaws.{unknown_here, known_here, known-all}
 use Rattle.stand.proofs.operations.all_known.Goals as goal
 

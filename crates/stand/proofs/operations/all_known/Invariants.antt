@@ -1,9 +1,7 @@
-use mathlib.Core.Path.{◌≡◌, refl}
+use mathlib.Core.Path.{◌≡◌}
 use Prim.Native.Nat.{◌-◌, ◌≤◌}
-use borrow.Author.Rules.{rules}
 use lib.ListN.{length, drop}
 use Rattle.stand.specs.Kinds.{all_known}
-use Rattle.stand.proofs.KindLaws.{unknown_here, known_here, known-all}
 use Rattle.stand.proofs.operations.all_known.Given as goal
 
 abbrev pub invariant-loop-k : goal.invariant-loop-k

@@ -1,7 +1,6 @@
 -- `kind_at` reads the kind where there is one.
 -- Assumes nothing.
 use mathlib.Core.Path.{refl, sym}
-use borrow.Author.Rules.{rules}
 use lib.ListN.{get_or-eq_default}
 use Rattle.stand.proofs.operations.kind_at.Goals as goal
 

@@ -1,10 +1,8 @@
 -- `operate` does what the kind names.
 -- Assumes nothing.
 use mathlib.Core.Path.{refl, sym, subst}
-use borrow.Author.Rules.{rules}
 use Rattle.stand.specs.Kinds.{DoneAs}
 use Rattle.stand.proofs.KindLaws.{by_batch_kind, by_keep_kind, by_restore_kind, by_call_kind}
-use Rattle.stand.specs.declared.operations.Done.{Done}
 use Rattle.stand.proofs.operations.operate.Goals as goal
 
 pub returns-then-kind-eq-BATCH : goal.returns-then-kind-eq-BATCH

@@ -2,7 +2,6 @@
 -- Assumes nothing.
 use mathlib.Core.Path.{sym}
 use lib.Seq.{set_out}
-use borrow.Author.Rules.{rules}
 use Rattle.stand.proofs.operations.put_count.Goals as goal
 
 pub returns-else-k-counts : goal.returns-else-k-counts

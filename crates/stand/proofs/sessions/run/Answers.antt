@@ -1,10 +1,8 @@
 -- `run` does every operation as the book does: `Progress` holds before each. The measure is the operations left.
 -- Assumes nothing.
-use Prim.Native.Nat.{◌≤◌, ◌-◌}
 use borrow.Author.Rules.{rules}
 use native.Mathlib.Omega.{arith}
-use lib.ListN.{length}
-use Rattle.stand.proofs.RunLaws.{Progress, begun, room_same, places_same, records-end, size-there, part_ends, place-there, worked, finished}
+use Rattle.stand.proofs.RunLaws.{begun, room_same, places_same, records-end, size-there, part_ends, place-there, worked, finished}
 use Rattle.stand.proofs.sessions.run.Goals as goal
 
 pub loop-k-init : goal.loop-k-init

@@ -1,8 +1,6 @@
 use Prim.Native.Nat.{◌≤◌, ◌-◌}
-use borrow.Author.Rules.{rules}
-use native.Mathlib.Omega.{arith}
 use lib.ListN.{length}
-use Rattle.stand.proofs.RunLaws.{Progress, begun, room_same, places_same, records-end, size-there, part_ends, place-there, worked, finished}
+use Rattle.stand.proofs.RunLaws.{Progress}
 use Rattle.stand.proofs.sessions.run.Given as goal
 
 abbrev pub invariant-loop-k : goal.invariant-loop-k

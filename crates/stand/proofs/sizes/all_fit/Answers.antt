@@ -2,7 +2,6 @@
 -- Assumes nothing.
 use mathlib.Core.Bool.{not}
 use mathlib.Core.Path.{ap}
-use borrow.Author.Rules.{rules}
 use Rattle.stand.proofs.SizeLaws.{lengths_unfit, sizes-unfit, counts_differ, by_count}
 use Rattle.stand.proofs.sizes.all_fit.Goals as goal
 

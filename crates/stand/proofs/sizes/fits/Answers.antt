@@ -1,11 +1,7 @@
 -- `fits` answers whether the sizes add up: what is left and what is still to take stay in step. The measure is the sizes left.
 -- Assumes nothing.
-use mathlib.Core.Path.{◌≡◌}
-use Prim.Native.Nat.{◌+◌, ◌≤◌, ◌-◌}
 use borrow.Author.Rules.{rules}
 use native.Mathlib.Omega.{arith}
-use lib.ListN.{length, drop}
-use Rattle.stand.specs.Calls.{total}
 use Rattle.stand.proofs.SizeLaws.{too_short, one_off, all_off}
 use Rattle.stand.proofs.sizes.fits.Goals as goal
 

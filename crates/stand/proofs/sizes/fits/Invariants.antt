@@ -1,10 +1,7 @@
 use mathlib.Core.Path.{◌≡◌}
 use Prim.Native.Nat.{◌+◌, ◌≤◌, ◌-◌}
-use borrow.Author.Rules.{rules}
-use native.Mathlib.Omega.{arith}
 use lib.ListN.{length, drop}
 use Rattle.stand.specs.Calls.{total}
-use Rattle.stand.proofs.SizeLaws.{too_short, one_off, all_off}
 use Rattle.stand.proofs.sizes.fits.Given as goal
 
 abbrev pub invariant-loop-k : goal.invariant-loop-k
