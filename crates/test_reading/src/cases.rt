@@ -15,14 +15,12 @@ pub struct Filled {
 
 // How many bytes stand before the first newline.
 fn line_length(s: &[u8]) -> usize {
-    let mut i = 0;
-    while i < s.len() {
+    for i in 0..s.len() {
         if s[i] == b'\n' {
             return i;
         }
-        i += 1;
     }
-    i
+    s.len()
 }
 
 // The first n bytes, or all where there are fewer.
@@ -46,25 +44,21 @@ fn left_after(left: usize, n: usize) -> usize
 // A line padded with spaces to 127 bytes, and the newline.
 fn padded(line: &[u8]) -> Filled {
     let mut bytes = [b' '; 300];
-    let mut i: usize = 0;
-    while i < line.len() {
-        if 299 <= i {
-            break;
-        }
+    let n = line.len().min(299);
+    for i in 0..n {
         bytes[i] = line[i];
-        i += 1;
     }
-    if i < 127 {
+    if n < 127 {
         bytes[127] = b'\n';
         return Filled {
             bytes: bytes,
             len: 128,
         };
     }
-    bytes[i] = b'\n';
+    bytes[n] = b'\n';
     Filled {
         bytes: bytes,
-        len: i + 1,
+        len: n + 1,
     }
 }
 

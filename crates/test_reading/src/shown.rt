@@ -24,13 +24,11 @@ fn hexadecimal(rt: &impl Print, b: u8) -> io::Result<()> {
 
 // A packed name without the spaces that pad it.
 pub fn name_shown(rt: &impl Print, n: u64) -> io::Result<()> {
-    let mut i: usize = 0;
-    while i < 8 {
+    for i in 0..8 {
         let b = names::column(n, i);
         if b != b' ' {
             byte(rt, b)?;
         }
-        i += 1;
     }
     Ok(())
 }
