@@ -1,8 +1,11 @@
 -- How far the records of a file are answered, and whether another one is asked for.
 -- Assumes nothing.
-use Rattle.std.specs.Prelude.{◌≡◌, Bool, true, false, not, ◌&&◌, List, ℕ, ◌-◌, eqb}
-use Rattle.io.specs.Counts.{IsPrefixLen}
+use Rattle.std.specs.Prelude.{◌≡◌, Bool, true, false, not, ◌&&◌, List, length, take, ℕ, ◌-◌, ◌≤◌, eqb}
 use Rattle.input.specs.declared.progress.Progress.{Progress}
+
+-- the first n bytes of s are in bounds, and there are n of them. The second part follows from the first.
+abbrev pub IsPrefixLen : ℕ → List ℕ → Type 0
+IsPrefixLen n s = (n ≤ length s) × (n ≡ length (take n s))
 
 -- before the first record: as many are counted as a number of 64 bits holds
 abbrev pub at_start : Progress

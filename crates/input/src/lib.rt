@@ -1,10 +1,10 @@
 // The records of an open file, one at a time, so that a file may be of any length.
 //
-// Rattle has no function values, so the loop that answers the records stays in each program.
+// The loop that answers the records stays in each program.
 #![tactic(auto)]
 
 pub mod progress;
 pub mod records;
 
 pub use progress::{Progress, goes_on, start};
-pub use records::next;
+pub use records::{next, read_full};

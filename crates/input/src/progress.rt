@@ -3,7 +3,7 @@ ghost use Rattle.std.specs.Prelude.{◌≡◌};
 ghost use Rattle.input.specs.Progress.{at_start, goes_on};
 
 // How many more records are counted, how many bytes the last one had, and whether its answer could be written.
-#[derive(Drop)]
+#[derive(Clone, Copy)]
 pub struct Progress {
     pub left: u64,
     pub len: usize,
@@ -23,6 +23,7 @@ pub fn start() -> Progress
 }
 
 // Whether another record is asked for. It stops only at a record that is not whole, or where an answer could not be written.
+#[tactic(auto, unfolding(crate::specs::Progress::goes_on))]
 pub fn goes_on(p: Progress) -> bool
     ensures { result ≡ goes_on p }
 {

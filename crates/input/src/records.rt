@@ -1,33 +1,49 @@
 // The next record of an open file.
-ghost use Rattle.std.specs.Prelude.{◌≡◌, ◌-◌};
-ghost use Rattle.io.specs.Counts.{IsPrefixLen};
-ghost use Rattle.input.specs.Progress.{Got};
+ghost use Rattle.std.specs.Prelude.{◌≡◌, ◌-◌, ◌+◌, ◌<◌, ◌≤◌, IfOk, length, take, drop};
+ghost use Rattle.std.specs.Io.KnownBytes.{Consumes, IsAtEnd};
+ghost use Rattle.input.specs.Progress.{Got, IsPrefixLen};
 
 use crate::progress::Progress;
+use std::io;
+use std::io::Read;
 
-// Whether a read fails, told on standard error. A read at the end of a file does not fail.
-fn unread(fd: i32, path: &[u8]) -> bool {
-    let mut byte = [0u8; 1];
-    let failed = libc::read(fd, &mut byte) < 0;
-    if failed {
-        os::fail(path);
-    }
-    failed
+// One read, to the bytes from `at` on, which are unread so far: how many came, none at the end of the file.
+fn unread<R: Read>(file: &mut R, bytes: &mut [u8], at: usize) -> io::Result<usize>
+    requires { at < length bytes.old }
+    ensures front { take at bytes.new ≡ take at bytes.old }
+    ensures fits { IfOk result (λ n. at + n ≤ length bytes.new) }
+    ensures bytes { IfOk result (λ n. Consumes (R.remaining file.old) (R.remaining file.new) (take n (drop at bytes.new))) }
+    ensures end { IfOk result (λ n. n ≡ 0 → IsAtEnd (R.remaining file.new)) }
+{
+    file.read(&mut bytes[at..])
 }
 
-// How many bytes the next record has, read to the start of bytes: 128, fewer in a short last record, none where nothing is left. A short count is
-// also what a read that failed leaves, and that is told instead, and is no record.
-fn length(fd: i32, path: &[u8], bytes: &mut [u8; 128]) -> usize
-    ensures { IsPrefixLen result bytes.new }
+// Reads to the start of `bytes` until they are full or the file ends, and answers how many there were. One read may bring fewer bytes than are
+// left in the file.
+pub fn read_full<R: Read>(file: &mut R, bytes: &mut [u8]) -> io::Result<usize>
+    ensures count { IfOk result (λ n. IsPrefixLen n bytes.new) }
+    ensures bytes { IfOk result (λ n. Consumes (R.remaining file.old) (R.remaining file.new) (take n bytes.new)) }
+    ensures end { IfOk result (λ n. n < length bytes.new → IsAtEnd (R.remaining file.new)) }
 {
-    let n = io::read_full(fd, bytes);
-    if n == 128 {
-        return n;
+    let mut done = 0;
+    while done < bytes.len() {
+        let n = unread(file, bytes, done)?;
+        if n == 0 {
+            return Ok(done);
+        }
+        done += n;
     }
-    if unread(fd, path) {
-        return 0;
-    }
-    n
+    Ok(done)
+}
+
+// How many bytes the next record has, read to the start of bytes: 128, fewer in a short last record, none where nothing is left. A read that
+// fails is an error, and brings no record.
+fn length<R: Read>(file: &mut R, bytes: &mut [u8; 128]) -> io::Result<usize>
+    ensures count { IfOk result (λ n. IsPrefixLen n bytes.new) }
+    ensures bytes { IfOk result (λ n. Consumes (R.remaining file.old) (R.remaining file.new) (take n bytes.new)) }
+    ensures end { IfOk result (λ n. n < 128 → IsAtEnd (R.remaining file.new)) }
+{
+    read_full(file, bytes)
 }
 
 // One less, where there is one.
@@ -41,14 +57,16 @@ fn less(n: u64) -> u64
 }
 
 // Reads the next record to the start of bytes, and counts it. Whether its answer can be written is still to be told.
-pub fn next(fd: i32, path: &[u8], p: Progress, bytes: &mut [u8; 128]) -> Progress
-    ensures { Got p bytes.new result }
+pub fn next<R: Read>(file: &mut R, p: Progress, bytes: &mut [u8; 128]) -> io::Result<Progress>
+    ensures got { IfOk result (λ r. Got p bytes.new r) }
+    ensures bytes { IfOk result (λ r. Consumes (R.remaining file.old) (R.remaining file.new) (take r.len bytes.new)) }
+    ensures end { IfOk result (λ r. r.len < 128 → IsAtEnd (R.remaining file.new)) }
 {
-    let n = length(fd, path, bytes);
+    let n = length(file, bytes)?;
     let left = less(p.left);
-    Progress {
+    Ok(Progress {
         left: left,
         len: n,
         written: false,
-    }
+    })
 }

@@ -8,15 +8,14 @@
 
 pub mod run;
 
+use anyhow::Context;
 use run::all_records;
+use std::fs::File;
 
-fn main() {
-    let path = b"session.rec";
-    let fd = os::open_read(path);
-    if fd < 0 {
-        os::fail(path);
-        return;
-    }
-    all_records(fd, path);
-    libc::close(fd);
+const PATH: &str = "session.rec";
+
+fn main(rt: HostRuntime) -> anyhow::Result<()> {
+    let mut file = File::open(&rt, PATH).context(PATH)?;
+    all_records(&rt, &mut file).context(PATH)?;
+    Ok(())
 }

@@ -11,17 +11,19 @@ pub mod shown;
 pub mod steps;
 
 use full::{filled, thirty};
+use std::io;
 
-fn main() {
-    let f = sheet::declared(follow::new());
-    let f = sheet::followed(f);
-    let f = sheet::joined(f);
-    let f = sheet::met(f);
-    let f = sheet::begun(f);
-    let f = sheet::refused_roles(f);
-    let f = sheet::refused_rules(f);
-    let f = sheet::longest(f);
-    let f = sheet::ended(thirty(f));
-    let f = sheet::full_of_roles(filled(f, true));
-    sheet::full_of_rules(filled(f, false));
+fn main(rt: HostRuntime) -> io::Result<()> {
+    let f = sheet::declared(&rt, follow::new())?;
+    let f = sheet::followed(&rt, f)?;
+    let f = sheet::joined(&rt, f)?;
+    let f = sheet::met(&rt, f)?;
+    let f = sheet::begun(&rt, f)?;
+    let f = sheet::refused_roles(&rt, f)?;
+    let f = sheet::refused_rules(&rt, f)?;
+    let f = sheet::longest(&rt, f)?;
+    let f = sheet::ended(&rt, thirty(f))?;
+    let f = sheet::full_of_roles(&rt, filled(&rt, f, true)?)?;
+    sheet::full_of_rules(&rt, filled(&rt, f, false)?)?;
+    Ok(())
 }

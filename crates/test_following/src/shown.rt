@@ -1,24 +1,23 @@
 // What is printed: texts, numbers and names.
-use libc::STDOUT_FILENO;
+use std::io;
 
 // Some bytes as they are.
-pub fn say(s: &[u8]) {
-    io::write_all(STDOUT_FILENO, s);
+pub fn say(rt: &impl Print, s: &[u8]) -> io::Result<()> {
+    rt.write_all(s)
 }
 
 // A number in decimal.
-pub fn number(n: u64) {
-    io::print_decimal(STDOUT_FILENO, n);
+pub fn number(rt: &impl Print, n: u64) -> io::Result<()> {
+    rt.print(n)
 }
 
 // A packed name without the spaces that pad it.
-pub fn name(n: u64) {
-    let mut i: usize = 0;
-    while i < 8 {
+pub fn name(rt: &impl Print, n: u64) -> io::Result<()> {
+    for i in 0..8 {
         let b = names::column(n, i);
         if b != b' ' {
-            say(&[b]);
+            say(rt, &[b])?;
         }
-        i += 1;
     }
+    Ok(())
 }

@@ -4,35 +4,36 @@ use code::EventLine;
 use follow::{
     Declared, Event, State, capped, commit, declare_role, declare_rule, matches, number_at, refused,
 };
+use std::io;
 
 // Rule i's name, where its past matches now.
-fn rule_told(f: State, i: usize) {
+fn rule_told(rt: &impl Print, f: &State, i: usize) -> io::Result<()> {
     if matches(&f.sheet.ends, &f.positions, i) {
-        say(b" ");
-        name(number_at(&f.sheet.rule_names, i));
+        say(rt, b" ")?;
+        name(rt, number_at(&f.sheet.rule_names, i))?;
     }
+    Ok(())
 }
 
 // The names of the rules whose pasts match now, in declared order.
-fn rules_told(f: State) {
+fn rules_told(rt: &impl Print, f: &State) -> io::Result<()> {
     let count = capped(32, f.sheet.rule_count);
-    let mut i: usize = 0;
-    while i < count {
-        rule_told(f, i);
-        i += 1;
+    for i in 0..count {
+        rule_told(rt, f, i)?;
     }
+    Ok(())
 }
 
 // A step: its text, its number, and the rules whose pasts match after it.
-pub fn told(text: &[u8], d: Declared) -> State {
+pub fn told(rt: &impl Print, text: &[u8], d: Declared) -> io::Result<State> {
     let f = d.state;
-    say(text);
-    say(b" => ");
-    number(d.number as u64);
-    say(b", matching:");
-    rules_told(f);
-    say(b"\n");
-    f
+    say(rt, text)?;
+    say(rt, b" => ")?;
+    number(rt, d.number as u64)?;
+    say(rt, b", matching:")?;
+    rules_told(rt, &f)?;
+    say(rt, b"\n")?;
+    Ok(f)
 }
 
 // A role line, declared.
@@ -72,20 +73,20 @@ fn event_committed(f: State, e: EventLine) -> Declared {
 }
 
 // A step that is a role line.
-pub fn role(f: State, text: &[u8]) -> State {
-    told(text, role_declared(f, text))
+pub fn role(rt: &impl Print, f: State, text: &[u8]) -> io::Result<State> {
+    told(rt, text, role_declared(f, text))
 }
 
 // A step that is a rule line.
-pub fn rule(f: State, text: &[u8]) -> State {
-    told(text, rule_declared(f, text))
+pub fn rule(rt: &impl Print, f: State, text: &[u8]) -> io::Result<State> {
+    told(rt, text, rule_declared(f, text))
 }
 
 // A step that is an event.
-pub fn event(f: State, text: &[u8]) -> State {
+pub fn event(rt: &impl Print, f: State, text: &[u8]) -> io::Result<State> {
     let names = f.sheet.names;
     let n = capped(64, f.sheet.role_count);
     let e = code::event_line(text, &names[..n]);
-    say(b"event ");
-    told(text, event_committed(f, e))
+    say(rt, b"event ")?;
+    told(rt, text, event_committed(f, e))
 }

@@ -1,16 +1,17 @@
 // The fields of a case's record.
 use common::wide;
+use input::read_full;
+use std::io;
+use std::io::Read;
 
 // The number that digits say. It stops where a digit more could pass what a number holds.
 pub fn decimal(digits: &[u8]) -> usize {
     let mut n: usize = 0;
-    let mut i: usize = 0;
-    while i < digits.len() {
+    for digit in digits {
         if 1844674407370955000 <= n {
             return n;
         }
-        n = n * 10 + wide(digits[i] % 16);
-        i += 1;
+        n = n * 10 + wide(*digit % 16);
     }
     n
 }
@@ -27,9 +28,9 @@ pub fn field(s: &[u8], from: usize, to: usize) -> &[u8] {
 }
 
 // Reads a list of `len` bytes to the start of a buffer, and answers how many there were.
-pub fn list_read(fd: i32, buffer: &mut [u8], len: usize) -> usize {
+pub fn list_read(file: &mut impl Read, buffer: &mut [u8], len: usize) -> io::Result<usize> {
     if buffer.len() < len {
-        return 0;
+        return Ok(0);
     }
-    io::read_full(fd, &mut buffer[..len])
+    read_full(file, &mut buffer[..len])
 }

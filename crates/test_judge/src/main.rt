@@ -12,16 +12,15 @@ pub mod answers;
 pub mod cases;
 pub mod fields;
 
+use anyhow::Context;
 use cases::{all_cases, say_tally};
+use std::fs::File;
 
-fn main() {
-    let path = b"cases.rec";
-    let fd = os::open_read(path);
-    if fd < 0 {
-        os::fail(path);
-        return;
-    }
-    let tally = all_cases(fd);
-    libc::close(fd);
-    say_tally(tally);
+const PATH: &str = "cases.rec";
+
+fn main(rt: HostRuntime) -> anyhow::Result<()> {
+    let mut file = File::open(&rt, PATH).context(PATH)?;
+    let tally = all_cases(&rt, &mut file).context(PATH)?;
+    say_tally(&rt, tally)?;
+    Ok(())
 }

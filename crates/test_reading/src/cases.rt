@@ -4,6 +4,7 @@ ghost use Rattle.std.specs.Prelude.{◌≡◌, ◌-◌};
 use crate::judged::judged;
 use crate::shown::{byte, say};
 use lexer::rest;
+use std::io;
 
 // A line's bytes with the spaces and the newline: a record, or more where the line is longer.
 #[derive(Drop)]
@@ -14,14 +15,12 @@ pub struct Filled {
 
 // How many bytes stand before the first newline.
 fn line_length(s: &[u8]) -> usize {
-    let mut i = 0;
-    while i < s.len() {
+    for i in 0..s.len() {
         if s[i] == b'\n' {
             return i;
         }
-        i += 1;
     }
-    i
+    s.len()
 }
 
 // The first n bytes, or all where there are fewer.
@@ -45,75 +44,69 @@ fn left_after(left: usize, n: usize) -> usize
 // A line padded with spaces to 127 bytes, and the newline.
 fn padded(line: &[u8]) -> Filled {
     let mut bytes = [b' '; 300];
-    let mut i: usize = 0;
-    while i < line.len() {
-        if 299 <= i {
-            break;
-        }
+    let n = line.len().min(299);
+    for i in 0..n {
         bytes[i] = line[i];
-        i += 1;
     }
-    if i < 127 {
+    if n < 127 {
         bytes[127] = b'\n';
         return Filled {
             bytes: bytes,
             len: 128,
         };
     }
-    bytes[i] = b'\n';
+    bytes[n] = b'\n';
     Filled {
         bytes: bytes,
-        len: i + 1,
+        len: n + 1,
     }
 }
 
 // What became of a line's bytes.
-fn filled_judged(m: Filled, held: &[u64]) {
+fn filled_judged(rt: &impl Print, m: Filled, held: &[u64]) -> io::Result<()> {
     let bytes = m.bytes;
     let len = m.len;
     if 300 < len {
-        return;
+        return Ok(());
     }
-    judged(&bytes[..len], held);
+    judged(rt, &bytes[..len], held)
 }
 
 // What became of a line.
-fn line_judged(line: &[u8], held: &[u64]) {
+fn line_judged(rt: &impl Print, line: &[u8], held: &[u64]) -> io::Result<()> {
     if line.len() == 0 {
-        filled_judged(padded(line), held);
-        return;
+        return filled_judged(rt, padded(line), held);
     }
     if line[0] == b'=' {
-        judged(&line[1..], held);
-        return;
+        return judged(rt, &line[1..], held);
     }
-    filled_judged(padded(line), held);
+    filled_judged(rt, padded(line), held)
 }
 
 // The bytes of a line, those that are not printable in hexadecimal.
-fn line_shown(line: &[u8]) {
-    let mut i = 0;
-    while i < line.len() {
-        byte(line[i]);
-        i += 1;
+fn line_shown(rt: &impl Print, line: &[u8]) -> io::Result<()> {
+    for b in line {
+        byte(rt, *b)?;
     }
+    Ok(())
 }
 
 // A case: the line, and what became of it.
-fn one_case(line: &[u8], held: &[u64]) {
-    line_shown(line);
-    say(b" => ");
-    line_judged(line, held);
-    say(b"\n");
+fn one_case(rt: &impl Print, line: &[u8], held: &[u64]) -> io::Result<()> {
+    line_shown(rt, line)?;
+    say(rt, b" => ")?;
+    line_judged(rt, line, held)?;
+    say(rt, b"\n")
 }
 
 // Every line of a file, in order.
-pub fn all_cases(file: &[u8], held: &[u64]) {
+pub fn all_cases(rt: &impl Print, file: &[u8], held: &[u64]) -> io::Result<()> {
     let mut left = file.len();
     while 0 < left {
         let s = rest(file, left);
         let n = line_length(s);
-        one_case(first(s, n), held);
+        one_case(rt, first(s, n), held)?;
         left = left_after(left, n);
     }
+    Ok(())
 }

@@ -6,113 +6,110 @@ use crate::shown::{code_shown, name_shown, roles_shown, say};
 use code::{Encoded, EventLine, patterns};
 use frame::{Frame, framed, text};
 use grammar::Kind;
-use libc::STDOUT_FILENO;
+use std::io;
 
 // A role line: its name, and whether its parent is held.
-fn role(t: &[u8], held: &[u64]) {
+fn role(rt: &impl Print, t: &[u8], held: &[u64]) -> io::Result<()> {
     let r = code::role_line(t, held);
-    say(b"role ");
-    name_shown(r.name);
+    say(rt, b"role ")?;
+    name_shown(rt, r.name)?;
     if r.parent < held.len() {
-        say(b", parent held");
-        return;
+        return say(rt, b", parent held");
     }
-    say(b", parent not held, refused 6");
+    say(rt, b", parent not held, refused 6")
 }
 
 // How many patterns a past has, by the code that begins with it.
-fn patterns_shown(body: Encoded) {
+fn patterns_shown(rt: &impl Print, body: &Encoded) -> io::Result<()> {
     let code = body.code;
     let len = body.len;
     if 126 < len {
-        return;
+        return Ok(());
     }
-    io::print_decimal(STDOUT_FILENO, patterns(&code[..len]) as u64);
+    print!(rt; "{}", patterns(&code[..len]))
 }
 
 // The code of a rule.
-fn body_shown(body: Encoded, held: &[u64]) {
+fn body_shown(rt: &impl Print, body: &Encoded, held: &[u64]) -> io::Result<()> {
     let code = body.code;
     let len = body.len;
     if 126 < len {
-        return;
+        return Ok(());
     }
-    code_shown(&code[..len], held);
+    code_shown(rt, &code[..len], held)
 }
 
 // Whether the roles are held and the patterns few enough, with the refusal: 6 before 7.
-fn verdict(unknown: bool, fits: bool) {
+fn verdict(rt: &impl Print, unknown: bool, fits: bool) -> io::Result<()> {
     if unknown {
-        say(b", role not held, refused 6");
-        return;
+        return say(rt, b", role not held, refused 6");
     }
-    say(b", roles held");
-    if !fits {
-        say(b", refused 7");
+    say(rt, b", roles held")?;
+    if fits {
+        return Ok(());
     }
+    say(rt, b", refused 7")
 }
 
 // A rule line: its name, the number of patterns in its past, whether its roles are held, and its code.
-fn rule(t: &[u8], held: &[u64]) {
+fn rule(rt: &impl Print, t: &[u8], held: &[u64]) -> io::Result<()> {
     let r = code::rule_line(t, held);
-    let body = r.body;
-    say(b"rule ");
-    name_shown(r.name);
-    say(b", patterns ");
-    patterns_shown(body);
+    say(rt, b"rule ")?;
+    name_shown(rt, r.name)?;
+    say(rt, b", patterns ")?;
+    patterns_shown(rt, &r.body)?;
     if r.fits {
-        say(b" fit");
+        say(rt, b" fit")?;
     } else {
-        say(b" too many");
+        say(rt, b" too many")?;
     }
-    verdict(body.unknown, r.fits);
-    say(b", code ");
-    body_shown(body, held);
+    verdict(rt, r.body.unknown, r.fits)?;
+    say(rt, b", code ")?;
+    body_shown(rt, &r.body, held)
 }
 
 // The roles of an event, by id and name.
-fn event_shown(e: EventLine, held: &[u64]) {
+fn event_shown(rt: &impl Print, e: &EventLine, held: &[u64]) -> io::Result<()> {
     let roles = e.roles;
     let len = e.len;
     if 4 < len {
-        return;
+        return Ok(());
     }
-    roles_shown(&roles[..len], held);
+    roles_shown(rt, &roles[..len], held)
 }
 
 // An event: whether its roles are held, and their ids.
-fn event(e: EventLine, held: &[u64]) {
-    say(b"event");
-    verdict(e.unknown, true);
-    say(b", ids");
-    event_shown(e, held);
+fn event(rt: &impl Print, e: &EventLine, held: &[u64]) -> io::Result<()> {
+    say(rt, b"event")?;
+    verdict(rt, e.unknown, true)?;
+    say(rt, b", ids")?;
+    event_shown(rt, e, held)
 }
 
 // A line's text.
-fn line(t: &[u8], held: &[u64]) {
+fn line(rt: &impl Print, t: &[u8], held: &[u64]) -> io::Result<()> {
     match grammar::line_kind(t) {
-        Kind::Role => role(t, held),
-        Kind::Rule => rule(t, held),
-        Kind::Neither => say(b"refused 4"),
+        Kind::Role => role(rt, t, held),
+        Kind::Rule => rule(rt, t, held),
+        Kind::Neither => say(rt, b"refused 4"),
     }
 }
 
 // An event's text.
-fn event_text(t: &[u8], held: &[u64]) {
+fn event_text(rt: &impl Print, t: &[u8], held: &[u64]) -> io::Result<()> {
     let e = code::event_line(t, held);
     if e.fits {
-        event(e, held);
-        return;
+        return event(rt, &e, held);
     }
-    say(b"refused 4");
+    say(rt, b"refused 4")
 }
 
 // What became of any bytes.
-pub fn judged(bytes: &[u8], held: &[u64]) {
+pub fn judged(rt: &impl Print, bytes: &[u8], held: &[u64]) -> io::Result<()> {
     match framed(bytes) {
-        Frame::Line => line(text(bytes), held),
-        Frame::Event => event_text(text(bytes), held),
-        Frame::WrongLength => say(b"refused 2"),
-        Frame::Malformed => say(b"refused 3"),
+        Frame::Line => line(rt, text(bytes), held),
+        Frame::Event => event_text(rt, text(bytes), held),
+        Frame::WrongLength => say(rt, b"refused 2"),
+        Frame::Malformed => say(rt, b"refused 3"),
     }
 }

@@ -13,23 +13,23 @@ pub mod cases;
 pub mod judged;
 pub mod shown;
 
+use anyhow::Context;
 use cases::all_cases;
+use input::read_full;
+use std::fs::File;
 
-fn main() {
-    let path = b"texts.txt";
-    let fd = os::open_read(path);
-    if fd < 0 {
-        os::fail(path);
-        return;
-    }
-    let mut file = io::large_buffer();
-    let n = io::read_full(fd, &mut file);
-    libc::close(fd);
+const PATH: &str = "texts.txt";
+
+fn main(rt: HostRuntime) -> anyhow::Result<()> {
+    let mut texts = File::open(&rt, PATH).context(PATH)?;
+    let mut file = [0u8; 65536];
+    let n = read_full(&mut texts, &mut file).context(PATH)?;
     let held = [
         names::pack(b"top"),
         names::pack(b"lamp"),
         names::pack(b"uv"),
         names::pack(b"expose"),
     ];
-    all_cases(&file[..n], &held);
+    all_cases(&rt, &file[..n], &held)?;
+    Ok(())
 }

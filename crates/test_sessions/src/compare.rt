@@ -4,11 +4,14 @@ ghost use Rattle.std.specs.Prelude.{◌≡◌};
 use check::same;
 use common::wide;
 use follow::State;
+use input::read_full;
 use monitor::handle;
+use std::io;
+use std::io::Read;
 
 // What a comparison finds: the reply is the stored one; the records and the stored replies end together; the byte that differs first; the
 // number that the monitor returned is not the reply's; the stored replies end first; the records end first.
-#[derive(Drop)]
+#[derive(Clone, Copy)]
 pub enum Finding {
     Same,
     Ended,
@@ -34,12 +37,10 @@ pub struct Compared {
 
 // The first place where the bytes differ, or 50.
 fn first_other(reply: &[u8; 50], stored: &[u8; 50]) -> u64 {
-    let mut i: usize = 0;
-    while i < 50 {
+    for i in 0..50 {
         if reply[i] != stored[i] {
             return i as u64;
         }
-        i += 1;
     }
     50
 }
@@ -91,24 +92,24 @@ fn ended(k: usize) -> Finding {
 }
 
 // Reads the next record and the next stored reply, and compares.
-fn next(records: i32, replies: i32, monitor: State) -> Step {
+fn next(records: &mut impl Read, replies: &mut impl Read, monitor: State) -> io::Result<Step> {
     let mut record = [0u8; 128];
     let mut stored = [0u8; 50];
-    let n = io::read_full(records, &mut record);
-    let k = io::read_full(replies, &mut stored);
+    let n = read_full(records, &mut record)?;
+    let k = read_full(replies, &mut stored)?;
     if n == 0 {
-        return Step {
+        return Ok(Step {
             monitor: monitor,
             finding: ended(k),
-        };
+        });
     }
     if k < 50 {
-        return Step {
+        return Ok(Step {
             monitor: monitor,
             finding: Finding::RepliesEnded,
-        };
+        });
     }
-    answered(monitor, &record[..n], &stored)
+    Ok(answered(monitor, &record[..n], &stored))
 }
 
 // Whether the finding is that the reply is the stored one.
@@ -125,23 +126,21 @@ fn is_same(finding: Finding) -> bool {
 
 // Every record, in order, from a fresh monitor on, as far as the replies are as stored. The loop has to end and nothing says that a file does,
 // so the replies are counted, to a number that no file reaches.
-pub fn replies_compared(records: i32, replies: i32) -> Compared {
+pub fn replies_compared(records: &mut impl Read, replies: &mut impl Read) -> io::Result<Compared> {
     let mut monitor = monitor::new();
-    let mut count: u64 = 0;
-    while count < u64::MAX {
-        let s = next(records, replies, monitor);
+    for count in 0..u64::MAX {
+        let s = next(records, replies, monitor)?;
         let finding = s.finding;
         if !is_same(finding) {
-            return Compared {
+            return Ok(Compared {
                 count: count,
                 finding: finding,
-            };
+            });
         }
         monitor = s.monitor;
-        count += 1;
     }
-    Compared {
-        count: count,
+    Ok(Compared {
+        count: u64::MAX,
         finding: Finding::Same,
-    }
+    })
 }

@@ -1,5 +1,10 @@
 // The names of files.
-ghost use Rattle.std.specs.Prelude.{◌≡◌, ◌-◌, ◌≤◌};
+ghost use Rattle.std.specs.Prelude.{◌≡◌, ◌-◌};
+
+use std::fs::File;
+use std::io;
+use std::io::ErrorKind;
+use std::rt::Files;
 
 // The name of a file: the first len bytes.
 #[derive(Drop)]
@@ -10,14 +15,12 @@ pub struct Path {
 
 // How many bytes stand before the first newline.
 pub fn line_length(s: &[u8]) -> usize {
-    let mut i = 0;
-    while i < s.len() {
+    for i in 0..s.len() {
         if s[i] == b'\n' {
             return i;
         }
-        i += 1;
     }
-    i
+    s.len()
 }
 
 // The first n bytes, or all where there are fewer.
@@ -41,30 +44,29 @@ pub fn left_after(left: usize, n: usize) -> usize
 // A name and four bytes after it. A name is cut at 60 bytes, and there is then no such file.
 pub fn with_ending(name: &[u8], ending: &[u8; 4]) -> Path {
     let mut bytes = [0u8; 64];
-    let mut i: usize = 0;
-    while i < name.len() {
-        if 60 <= i {
-            break;
-        }
+    let n = name.len().min(60);
+    for i in 0..n {
         bytes[i] = name[i];
-        i += 1;
     }
-    bytes[i] = ending[0];
-    bytes[i + 1] = ending[1];
-    bytes[i + 2] = ending[2];
-    bytes[i + 3] = ending[3];
+    bytes[n] = ending[0];
+    bytes[n + 1] = ending[1];
+    bytes[n + 2] = ending[2];
+    bytes[n + 3] = ending[3];
     Path {
         bytes: bytes,
-        len: i + 4,
+        len: n + 4,
     }
 }
 
-// Opens a file for reading, or answers a number below 0.
-pub fn opened(path: Path) -> i32 {
+// Opens a file for reading. A name that is no text is an error, as is one that no file has.
+pub fn opened<R: Files>(rt: &R, path: Path) -> io::Result<R::File> {
     let bytes = path.bytes;
     let len = path.len;
     if 64 < len {
-        return -1;
+        return Err(io::Error::from(ErrorKind::InvalidInput));
     }
-    os::open_read(&bytes[..len])
+    match str::from_utf8(&bytes[..len]) {
+        Ok(name) => File::open(rt, name),
+        Err(_) => Err(io::Error::from(ErrorKind::InvalidInput)),
+    }
 }

@@ -9,17 +9,17 @@ pub mod compare;
 pub mod files;
 pub mod sessions;
 
+use anyhow::Context;
+use input::read_full;
 use sessions::{all_sessions, say_tally};
+use std::fs::File;
 
-fn main() {
-    let path = b"names.txt";
-    let fd = os::open_read(path);
-    if fd < 0 {
-        os::fail(path);
-        return;
-    }
-    let mut file = io::large_buffer();
-    let n = io::read_full(fd, &mut file);
-    libc::close(fd);
-    say_tally(all_sessions(&file[..n]));
+const PATH: &str = "names.txt";
+
+fn main(rt: HostRuntime) -> anyhow::Result<()> {
+    let mut names = File::open(&rt, PATH).context(PATH)?;
+    let mut file = [0u8; 65536];
+    let n = read_full(&mut names, &mut file).context(PATH)?;
+    say_tally(&rt, all_sessions(&rt, &file[..n])?)?;
+    Ok(())
 }

@@ -2,7 +2,8 @@
 use crate::compare::{Compared, Finding, replies_compared};
 use crate::files::{first, left_after, line_length, opened, with_ending};
 use lexer::rest;
-use libc::STDOUT_FILENO;
+use std::io;
+use std::rt::Files;
 
 // How many sessions came out as stored, and how many did not.
 #[derive(Drop)]
@@ -12,89 +13,78 @@ pub struct Tally {
 }
 
 // Some bytes as they are.
-fn say(s: &[u8]) {
-    io::write_all(STDOUT_FILENO, s);
+fn say(rt: &impl Print, s: &[u8]) -> io::Result<()> {
+    rt.write_all(s)
 }
 
 // Some bytes, a number and the newline.
-fn say_number(s: &[u8], n: u64) {
-    say(s);
-    io::print_decimal(STDOUT_FILENO, n);
-    say(b"\n");
+fn say_number(rt: &impl Print, s: &[u8], n: u64) -> io::Result<()> {
+    say(rt, s)?;
+    rt.println(n)
 }
 
 // The rest of a session's line, and whether all its replies are as stored.
-fn told(c: Compared) -> bool {
+fn told(rt: &impl Print, c: Compared) -> io::Result<bool> {
     let finding = c.finding;
     match finding {
-        Finding::Same => say_number(b" not ended at reply ", c.count),
+        Finding::Same => say_number(rt, b" not ended at reply ", c.count)?,
         Finding::Ended => {
-            say_number(b" ok ", c.count);
-            return true;
+            say_number(rt, b" ok ", c.count)?;
+            return Ok(true);
         }
         Finding::Differs(at) => {
-            say(b" differs at byte ");
-            io::print_decimal(STDOUT_FILENO, at);
-            say_number(b" of reply ", c.count);
+            print!(rt; " differs at byte {at}")?;
+            say_number(rt, b" of reply ", c.count)?;
         }
-        Finding::OtherNumber => say_number(b" returns another number at reply ", c.count),
-        Finding::RepliesEnded => say_number(b" has no stored reply ", c.count),
-        Finding::RepliesLeft => say_number(b" ends before the stored reply ", c.count),
+        Finding::OtherNumber => say_number(rt, b" returns another number at reply ", c.count)?,
+        Finding::RepliesEnded => say_number(rt, b" has no stored reply ", c.count)?,
+        Finding::RepliesLeft => say_number(rt, b" ends before the stored reply ", c.count)?,
     }
-    false
+    Ok(false)
 }
 
 // A session by its name: its line, and whether all its replies are as stored.
-fn session(name: &[u8]) -> bool {
-    say(name);
-    let records = opened(with_ending(name, b".rec"));
-    if records < 0 {
-        say(b" has no records\n");
-        return false;
-    }
-    let replies = opened(with_ending(name, b".out"));
-    if replies < 0 {
-        libc::close(records);
-        say(b" has no stored replies\n");
-        return false;
-    }
-    let c = replies_compared(records, replies);
-    libc::close(records);
-    libc::close(replies);
-    told(c)
+fn session(rt: &(impl Files + Print), name: &[u8]) -> io::Result<bool> {
+    say(rt, name)?;
+    let Ok(mut records) = opened(rt, with_ending(name, b".rec")) else {
+        say(rt, b" has no records\n")?;
+        return Ok(false);
+    };
+    let Ok(mut replies) = opened(rt, with_ending(name, b".out")) else {
+        say(rt, b" has no stored replies\n")?;
+        return Ok(false);
+    };
+    told(rt, replies_compared(&mut records, &mut replies)?)
 }
 
 // A session more, as stored or not.
 fn counted(t: Tally, passed: bool) -> Tally {
     if passed {
         return Tally {
-            good: std::num::wrapping_add_u64(t.good, 1),
+            good: t.good.wrapping_add(1),
             bad: t.bad,
         };
     }
     Tally {
         good: t.good,
-        bad: std::num::wrapping_add_u64(t.bad, 1),
+        bad: t.bad.wrapping_add(1),
     }
 }
 
 // Every session of the list, in order.
-pub fn all_sessions(names: &[u8]) -> Tally {
+pub fn all_sessions(rt: &(impl Files + Print), names: &[u8]) -> io::Result<Tally> {
     let mut left = names.len();
     let mut tally = Tally { good: 0, bad: 0 };
     while 0 < left {
         let s = rest(names, left);
         let n = line_length(s);
-        tally = counted(tally, session(first(s, n)));
+        tally = counted(tally, session(rt, first(s, n))?);
         left = left_after(left, n);
     }
-    tally
+    Ok(tally)
 }
 
 // The last line: the count.
-pub fn say_tally(t: Tally) {
-    io::print_decimal(STDOUT_FILENO, t.good);
-    say(b" sessions ok, ");
-    io::print_decimal(STDOUT_FILENO, t.bad);
-    say(b" not\n");
+pub fn say_tally(rt: &impl Print, t: Tally) -> io::Result<()> {
+    println!(rt; "{} sessions ok, {} not", t.good, t.bad)
 }

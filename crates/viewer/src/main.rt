@@ -17,15 +17,14 @@ pub mod records;
 pub mod shown;
 pub mod view;
 
+use anyhow::Context;
 use records::all_records;
+use std::fs::File;
 
-fn main() {
-    let path = b"film.rec";
-    let fd = os::open_read(path);
-    if fd < 0 {
-        os::fail(path);
-        return;
-    }
-    all_records(fd, path);
-    libc::close(fd);
+const PATH: &str = "film.rec";
+
+fn main(rt: HostRuntime) -> anyhow::Result<()> {
+    let mut file = File::open(&rt, PATH).context(PATH)?;
+    all_records(&rt, &mut file).context(PATH)?;
+    Ok(())
 }

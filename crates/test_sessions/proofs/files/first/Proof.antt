@@ -1,8 +1,0 @@
--- `first` is safe: a part that is no longer than the whole.
--- Assumes nothing.
-use Rattle.std.proofs.Common.{sym, length-take-le, rules}
-use Rattle.test_sessions.proofs.files.first.Statement.{statement}
-use Rattle.test_sessions.proofs.files.first.Tie as tie
-
-pub first_spec : {M : Type 1} → statement M
-first_spec = tie.close (tie.spec (λ c. search rules) (λ c. sym (length-take-le _ _ (search rules))) (λ c. search rules))
