@@ -1,12 +1,14 @@
 -- What a read on brings, beside what was read before it.
 -- Assumes nothing.
-use Rattle.std.proofs.Common.{◌≡◌, ℕ, ◌+◌, List, ◌++◌, take, drop, sym, ap, ◌∙◌, subst, Option}
+use Rattle.std.proofs.Common.{◌≡◌, ℕ, ◌+◌, ◌≤◌, List, ◌++◌, take, length, sym, ap, ◌∙◌, subst, Option}
 use Rattle.std.specs.Io.KnownBytes.{Consumes}
 use Rattle.std.proofs.KnownBytes.{Consumes-trans}
-use Rattle.std.proofs.Math.Seq.{take-add}
+use Rattle.std.proofs.Math.Seq.{take-append-add, take-append-le}
 
--- a bytes of xs stand, and n more came after them: the first a + n bytes of ys are what was taken from the file
-pub taken_more : (old mid now : Option (List ℕ)) (a n : ℕ) (xs ys : List ℕ)
-    → take a ys ≡ take a xs → Consumes old mid (take a xs) → Consumes mid now (take n (drop a ys)) → Consumes old now (take (a + n) ys)
-taken_more old mid now a n xs ys front before more =
-    subst (Consumes old now) (ap (λ l. l ++ take n (drop a ys)) (sym front) ∙ sym (take-add a n ys)) (Consumes-trans old mid now (take a xs) (take n (drop a ys)) before more)
+-- a bytes were taken from the file, and n of those that came after them: so were the first a + n
+pub taken_more : (old mid now : Option (List ℕ)) (a n : ℕ) (before came after : List ℕ) → length before ≡ a → n ≤ length came
+    → Consumes old mid before → Consumes mid now (take n came) → Consumes old now (take (a + n) (before ++ (came ++ after)))
+taken_more old mid now a n before came after e h p q =
+    let all : take (a + n) (before ++ (came ++ after)) ≡ before ++ take n came =
+    ap (λ k. take (k + n) (before ++ (came ++ after))) (sym e) ∙ take-append-add before (came ++ after) n ∙ ap (λ l. before ++ l) (take-append-le n came after h) in
+    subst (Consumes old now) (sym all) (Consumes-trans old mid now before (take n came) p q)

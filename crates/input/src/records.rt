@@ -1,5 +1,5 @@
 // The next record of an open file.
-ghost use Rattle.std.specs.Prelude.{◌≡◌, ◌-◌, ◌+◌, ◌<◌, ◌≤◌, IfOk, length, take, drop};
+ghost use Rattle.std.specs.Prelude.{◌≡◌, ◌-◌, ◌<◌, IfOk, length, take};
 ghost use Rattle.std.specs.Io.KnownBytes.{Consumes, IsAtEnd};
 ghost use Rattle.input.specs.Progress.{Got, IsPrefixLen};
 
@@ -7,15 +7,13 @@ use crate::progress::Progress;
 use std::io;
 use std::io::Read;
 
-// One read, to the bytes from `at` on, which are unread so far: how many came, none at the end of the file.
-fn unread<R: Read>(file: &mut R, bytes: &mut [u8], at: usize) -> io::Result<usize>
-    requires { at < length bytes.old }
-    ensures front { take at bytes.new ≡ take at bytes.old }
-    ensures fits { IfOk result (λ n. at + n ≤ length bytes.new) }
-    ensures bytes { IfOk result (λ n. Consumes (R.remaining file.old) (R.remaining file.new) (take n (drop at bytes.new))) }
-    ensures end { IfOk result (λ n. n ≡ 0 → IsAtEnd (R.remaining file.new)) }
+// One read, to the start of the bytes that are unread so far: how many came, none at the end of the file.
+fn unread<R: Read>(file: &mut R, rest: &mut [u8]) -> io::Result<usize>
+    ensures count { IfOk result (λ n. IsPrefixLen n rest.new) }
+    ensures bytes { IfOk result (λ n. Consumes (R.remaining file.old) (R.remaining file.new) (take n rest.new)) }
+    ensures end { IfOk result (λ n. n ≡ 0 → 0 < length rest.new → IsAtEnd (R.remaining file.new)) }
 {
-    file.read(&mut bytes[at..])
+    file.read(rest)
 }
 
 // Reads to the start of `bytes` until they are full or the file ends, and answers how many there were. One read may bring fewer bytes than are
@@ -27,7 +25,7 @@ pub fn read_full<R: Read>(file: &mut R, bytes: &mut [u8]) -> io::Result<usize>
 {
     let mut done = 0;
     while done < bytes.len() {
-        let n = unread(file, bytes, done)?;
+        let n = unread(file, &mut bytes[done..])?;
         if n == 0 {
             return Ok(done);
         }
