@@ -18,10 +18,17 @@ quietly() {
   "$@" > "$work/said" 2>&1 || { cat "$work/said" >&2; exit 1; }
 }
 
+# The session program, proved and built. `rt run` also runs it, where there is no session.rec, so what counts is that the program is there.
+built() {
+  bin=$PWD/crates/session/out/session
+  rm -f "$bin"
+  (cd crates/session && rt run) > "$work/said" 2>&1 || true
+  [ -x "$bin" ] || { cat "$work/said" >&2; exit 1; }
+}
+
 # The session program's replies to standard output.
 session() {
-  quietly rt check session
-  bin=$PWD/target/bin/session
+  built
   {
     while IFS= read -r line; do printf '%-127s\n' "$line"; done
     printf '%s' "$line"
