@@ -1,7 +1,5 @@
 -- `factor_begins` answers whether the next token is <, (, [ or the word any.
 use mathlib.Core.Path.{sym}
-use mathlib.Core.Logic.{⊎_elim}
-use native.Mathlib.Omega.{arith}
 use borrow.Author.Tests.{eq-eqb, ne_eqb}
 use Rattle.lexer.proofs.NextLaws.{next_means}
 use Rattle.grammar.proofs.LeafLaws.{begins-mark, begins-word, begins-none}
@@ -26,5 +24,5 @@ returns-in-Word c =
 pub returns-in_default : goal.returns-in_default
 returns-in_default c =
     sym (begins-none _ c.next.result (next_means _ _ c.next.ensures)
-    (λ m n e. ⊎_elim (λ q. omega arith) (λ q. omega arith) (rw e at c.in_default.in_default-own.keys3))
-    (λ m n e. ⊎_elim (λ q. omega arith) (λ q. omega arith) (rw e at c.in_default.in_default-own.keys3)))
+    c.in_default.not-Mark
+    c.in_default.not-Word)

@@ -12,13 +12,13 @@ loop-i-init c = (search rules, refl)
 pub returns-then-class_in-eq0 : goal.returns-then-class_in-eq0
 returns-then-class_in-eq0 c =
     let b = get_or c.args.text.now c.loop-i.i 0 in
-    let h = class_at b (omega (arith, c.shared_slice_known-in-loop-i-1.given c.loop-i.i)) in
+    let h = class_at b (omega (arith, c.type_inv.text c.loop-i.i)) in
     sym (c.loop-i.invariant.1 ∙ classed_stop _ _ c.loop-i-test.true (sym (c.class_in.ensures ∙ h) ∙ c.if-class_in-eq0.true))
 
 pub loop-i-preserved : goal.loop-i-preserved
 loop-i-preserved c =
     let b = get_or c.args.text.now c.loop-i.i 0 in
-    let h = class_at b (omega (arith, c.shared_slice_known-in-loop-i-1.given c.loop-i.i)) in
+    let h = class_at b (omega (arith, c.type_inv.text c.loop-i.i)) in
     (search rules, c.loop-i.invariant.1 ∙ classed-more _ _ c.loop-i-test.true (λ e. c.if-class_in-eq0.false (c.class_in.ensures ∙ h ∙ e)))
 
 pub returns : goal.returns

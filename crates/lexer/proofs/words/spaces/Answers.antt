@@ -13,7 +13,7 @@ unfolding spacey
 loop-i-preserved c =
     let s = c.args.s.now in
     let i = c.loop-i.i in
-    let h = class_at (get_or s i 0) (omega (arith, c.shared_slice_known-in-loop-i-1.given i)) in
+    let h = class_at (get_or s i 0) (omega (arith, c.type_inv.s i)) in
     let e = run_more_one spacey s i (search rules) (eq-eqb _ _ (sym (c.class_in.ensures ∙ h) ∙ c.if-class_in-eq1.true)) in
     omega arith
 
@@ -22,7 +22,7 @@ unfolding spacey
 returns-else-class_in-eq1 c =
     let s = c.args.s.now in
     let i = c.loop-i.i in
-    let h = class_at (get_or s i 0) (omega (arith, c.shared_slice_known-in-loop-i-1.given i)) in
+    let h = class_at (get_or s i 0) (omega (arith, c.type_inv.s i)) in
     let e = run_stop spacey s i (search rules) (ne_eqb _ _ (λ e. c.if-class_in-eq1.false (c.class_in.ensures ∙ h ∙ e))) in
     omega arith
 

@@ -12,7 +12,7 @@ unfolding wordy
 loop-i-preserved c =
     let s = c.args.s.now in
     let i = c.loop-i.i in
-    let h = class_at (get_or s i 0) (omega (arith, c.shared_slice_known-in-loop-i-1.given i)) in
+    let h = class_at (get_or s i 0) (omega (arith, c.type_inv.s i)) in
     let k = c.in_words.ensures ∙ ap (within 2 4) (c.class_in.ensures ∙ h) in
     let e = run_more_one wordy s i (search rules) (sym k ∙ c.if-in_words.true) in
     omega arith
@@ -22,7 +22,7 @@ unfolding wordy
 returns-else-in_words c =
     let s = c.args.s.now in
     let i = c.loop-i.i in
-    let h = class_at (get_or s i 0) (omega (arith, c.shared_slice_known-in-loop-i-1.given i)) in
+    let h = class_at (get_or s i 0) (omega (arith, c.type_inv.s i)) in
     let k = c.in_words.ensures ∙ ap (within 2 4) (c.class_in.ensures ∙ h) in
     let e = run_stop wordy s i (search rules) (sym k ∙ c.if-in_words.false) in
     omega arith
