@@ -23,7 +23,7 @@ pub struct Encoded {
 }
 
 // What a text begins with: no token; or its byte of code, whether it is a name that is not held, and how many bytes are left after it.
-#[derive(Drop)]
+#[derive(Clone, Copy)]
 pub enum Piece {
     End,
     Code(u8, bool, usize),

@@ -8,7 +8,7 @@ use lexer::words::NAME;
 use lexer::{Lexeme, first_word, next, rest};
 
 // An event's text, read: whether it is in the language; if it is, the ids of its roles, of which len count, and whether one is not held.
-#[derive(Drop)]
+#[derive(Clone, Copy)]
 pub struct EventLine {
     pub fits: bool,
     pub unknown: bool,
@@ -17,7 +17,7 @@ pub struct EventLine {
 }
 
 // What an event's text goes on with: no token; a name, by its id, and how many bytes are left after it; or a token that is no name.
-#[derive(Drop)]
+#[derive(Clone, Copy)]
 pub enum Part {
     End,
     Name(u8, usize),

@@ -8,7 +8,7 @@ use common::sizes::MAX_PATTERNS;
 use lexer::{Lexeme, first_word, next, rest};
 
 // A rule line: its name, its code after `rule NAME :`, and whether its past has few enough patterns.
-#[derive(Drop)]
+#[derive(Clone, Copy)]
 pub struct RuleLine {
     pub name: u64,
     pub fits: bool,
@@ -16,7 +16,7 @@ pub struct RuleLine {
 }
 
 // A role line: its name, and its parent's place among the names held, or how many are held.
-#[derive(Drop)]
+#[derive(Clone, Copy)]
 pub struct RoleLine {
     pub name: u64,
     pub parent: usize,

@@ -5,7 +5,7 @@ ghost use Rattle.follow.specs.Walked.{starts, StarsRead, BaseRead, FactorRead, S
 use positions::{Summary, in_order, nothing, one, one_of, repeated};
 
 // Where a spelling ends, and what the pass found of it.
-#[derive(Drop)]
+#[derive(Clone, Copy)]
 pub struct Walk {
     pub end: usize,
     pub summary: Summary,

@@ -7,7 +7,7 @@ use common::sizes::RECORD_SIZE;
 use lexer::all_classed;
 
 // A line, an event (document 01: act), or why the bytes are neither: not 128 of them (refusal 2), or refusal 3.
-#[derive(Drop)]
+#[derive(Clone, Copy)]
 pub enum Frame {
     Line,
     Event,

@@ -8,7 +8,7 @@ use lexer::words::ZERO;
 use lexer::{Lexeme, next};
 
 // What a reader finds: how many bytes are left unread, or that the text is not of its form.
-#[derive(Drop)]
+#[derive(Clone, Copy)]
 pub enum Reading {
     Left(usize),
     Bad,

@@ -14,7 +14,7 @@ use lexer::rest;
 use lexer::words::{NAME, ROLE, RULE, UNDER};
 
 // What a line's text is.
-#[derive(Drop)]
+#[derive(Clone, Copy)]
 pub enum Kind {
     Role,
     Rule,

@@ -8,7 +8,7 @@ use follow::{Event, capped};
 use frame::{Frame, framed, text};
 
 // A record is refused; or it is a line, to be declared; or an event, to be worked.
-#[derive(Drop)]
+#[derive(Clone, Copy)]
 pub enum Kind {
     Refusal,
     Line,
@@ -16,7 +16,7 @@ pub enum Kind {
 }
 
 // Document 01's number, 0 when the record is not refused, and the event with ids for names, where it is one.
-#[derive(Drop)]
+#[derive(Clone, Copy)]
 pub struct Request {
     pub kind: Kind,
     pub number: u8,

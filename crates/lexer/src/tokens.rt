@@ -7,7 +7,7 @@ use crate::words::{skip, word, word_kind};
 
 // The first token of a text, with the number of bytes that are left after it: a word by its kind, a mark (a class 5 byte), or a byte that
 // stands in no token.
-#[derive(Drop)]
+#[derive(Clone, Copy)]
 pub enum Lexeme {
     End,
     Word(u8, usize),

@@ -6,7 +6,7 @@ use crate::roles::below;
 use common::{both, either};
 
 // Where a spelling ends, and whether the event meets what it spells.
-#[derive(Drop)]
+#[derive(Clone, Copy)]
 pub struct Judged {
     pub end: usize,
     pub ok: bool,

@@ -7,7 +7,7 @@ use common::{both, either};
 
 // What the pass finds of a part of a past: the number of the pattern after it; whether it allows the empty list; whether a position held may
 // end it; the patterns that may begin it and that the event meets; those that the event leads to from a position held; those that may end it.
-#[derive(Drop)]
+#[derive(Clone, Copy)]
 pub struct Summary {
     pub next: usize,
     pub nullable: bool,

@@ -7,7 +7,7 @@ use common::sizes::RECORD_SIZE;
 use snapshot::{keep, restore};
 
 // Document 02's number: 0, or 13, 12 or 11; and how many records of the image buffer are the image now.
-#[derive(Drop)]
+#[derive(Clone, Copy)]
 pub struct RoundEnd {
     pub number: u8,
     pub used: u32,

@@ -7,7 +7,7 @@ use common::sizes::{MAX_ROLES, MAX_RULES, RECORD_SIZE};
 use follow::{State, capped};
 
 // Document 02's number: 0, or 13 where the buffer is too short; how many records were written; and the monitor, as it was.
-#[derive(Drop)]
+#[derive(Clone, Copy)]
 pub struct Kept {
     pub number: u8,
     pub count: u32,

@@ -7,7 +7,7 @@ use frame::text;
 use intake::{Kind, ask, declare};
 
 // Whether every line was taken; how many bytes they are; and the state that they leave.
-#[derive(Drop)]
+#[derive(Clone, Copy)]
 pub struct Lines {
     pub ok: bool,
     pub len: usize,

@@ -14,7 +14,7 @@ use lexer::same;
 const DIGITS: usize = 8;
 
 // The marks of an `M` record, where it is one of that rule's: whether it is, and the marks.
-#[derive(Drop)]
+#[derive(Clone, Copy)]
 pub struct Mark {
     pub ok: bool,
     pub marks: u64,

@@ -9,7 +9,7 @@ use follow::{State, code_of, number_at, row};
 use monitor::Handled;
 
 // Whether an image is accepted, and the state that it says.
-#[derive(Drop)]
+#[derive(Clone, Copy)]
 pub struct Image {
     pub ok: bool,
     pub state: State,

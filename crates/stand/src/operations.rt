@@ -15,7 +15,7 @@ const KEEP: u8 = 2;
 const RESTORE: u8 = 3;
 
 // The number of an operation, how many records it wrote, which keeping alone does, and the monitor after it.
-#[derive(Drop)]
+#[derive(Clone, Copy)]
 pub struct Done {
     pub number: u8,
     pub count: u32,

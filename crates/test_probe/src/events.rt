@@ -6,7 +6,7 @@ use follow::Event;
 const ROLES: u8 = 8;
 
 // An event, and where the next one begins; or that there is none.
-#[derive(Drop)]
+#[derive(Clone, Copy)]
 pub struct Decoded {
     pub more: bool,
     pub next: usize,

@@ -7,7 +7,7 @@ use lexer::rest;
 use std::io;
 
 // A line's bytes with the spaces and the newline: a record, or more where the line is longer.
-#[derive(Drop)]
+#[derive(Clone, Copy)]
 pub struct Filled {
     pub bytes: [u8; 300],
     pub len: usize,

@@ -22,14 +22,14 @@ pub enum Finding {
 }
 
 // The monitor after a record, and what the comparison of its reply found.
-#[derive(Drop)]
+#[derive(Clone, Copy)]
 pub struct Step {
     pub monitor: State,
     pub finding: Finding,
 }
 
 // How many replies were as stored, and what was found after them.
-#[derive(Drop)]
+#[derive(Clone, Copy)]
 pub struct Compared {
     pub count: u64,
     pub finding: Finding,

@@ -7,7 +7,7 @@ use std::io::ErrorKind;
 use std::rt::Files;
 
 // The name of a file: the first len bytes.
-#[derive(Drop)]
+#[derive(Clone, Copy)]
 pub struct Path {
     pub bytes: [u8; 64],
     pub len: usize,

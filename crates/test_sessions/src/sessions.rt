@@ -6,7 +6,7 @@ use std::io;
 use std::rt::Files;
 
 // How many sessions came out as stored, and how many did not.
-#[derive(Drop)]
+#[derive(Clone, Copy)]
 pub struct Tally {
     pub good: u64,
     pub bad: u64,
