@@ -123,5 +123,5 @@ module _ (f : State) (s b : List ℕ) (m : State) (left : List ℕ) (at to : ℕ
       go (suc n) e k l = absurd (omega (arith, k, end))
 
 -- the buffers are not those of a batch
-pub turned_away_lem : (f : State) (s b : List ℕ) → batch_fits s b ≡ false → BatchHandles f s b b (record { number = 11; monitor = f })
-turned_away_lem f s b e = record { taken = λ t. absurd (true_not_false (batch_fits s b) t e); refused = λ n. record { is = refl; buffer = refl } }
+pub turned_away : (f : State) (s b : List ℕ) → batch_fits s b ≡ false → BatchHandles f s b b (record { number = 11; monitor = f })
+turned_away f s b e = record { taken = λ t. absurd (true_not_false (batch_fits s b) t e); refused = λ n. record { is = refl; buffer = refl } }

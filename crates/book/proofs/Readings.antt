@@ -9,7 +9,7 @@ use Rattle.book.specs.Session.{answers, Run}
 use Rattle.book.specs.Restoring.{restored}
 use Rattle.book.specs.Operations.{Operation, call, batch, keep, Result, restored_or, machine_operate}
 use Rattle.book.specs.SessionBook.{SessionBook, fresh_session, book_operate}
-use Rattle.book.specs.Readings.{Among, among_first, among_later, Does, does_call, does_batch, does_keep, goes_back, follows_marks, turned_away_lem}
+use Rattle.book.specs.Readings.{Among, among_first, among_later, Does, does_call, does_batch, does_keep, goes_back, follows_marks, turned_away}
 use Rattle.book.proofs.Runs.{run-answers}
 use Rattle.book.proofs.Restored.{image_restored}
 use Rattle.book.proofs.Accepted.{from_same}
@@ -48,7 +48,7 @@ module _ (s : SessionBook) (p : Proper s) where
       state = ap (λ (x : Option PositionMachine). (restored_or (machine_of s.book) x).0) z ∙ sym (from_same t);
     },
   )
-  does_right o r n (turned_away_lem image z) = (
+  does_right o r n (turned_away image z) = (
     sym (ap (λ (x : Option PositionMachine). (restored_or (machine_of s.book) x).1) z),
     record { proper = p; state = ap (λ (x : Option PositionMachine). (restored_or (machine_of s.book) x).0) z },
   )

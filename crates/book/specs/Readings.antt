@@ -23,4 +23,4 @@ pub data Does (s : SessionBook) : Operation → Result → SessionBook → Type 
   does_keep : (lent : List ℕ) → Does s (keep lent) (book_operate s (keep lent)).1 (book_operate s (keep lent)).0
   goes_back : (image : List ℕ) (b : Book) (e : Bool) → Among b s.snapshots → image ≡ book_image b → Does s (restore image) (replaced 0) (record { book = b; snapshots = s.snapshots; entered = e })
   follows_marks : (image : List ℕ) (t : PositionMachine) (e : Bool) → restored image ≡ some t → Does s (restore image) (replaced 0) (record { book = book_from t; snapshots = s.snapshots; entered = e })
-  turned_away_lem : (image : List ℕ) → restored image ≡ none → Does s (restore image) (replaced 12) s
+  turned_away : (image : List ℕ) → restored image ≡ none → Does s (restore image) (replaced 12) s

@@ -1,4 +1,4 @@
--- The parsers of the rule language, over tokens. `line_Taken` and `event-taken` of proofs/Language.antt tie them to the spelling of trees,
+-- The parsers of the rule language, over tokens. `line_taken` and `event-taken` of proofs/Language.antt tie them to the spelling of trees,
 -- so that a reader of the promises need not believe them.
 -- Assumes nothing.
 use Rattle.std.specs.Prelude.{ℕ, zero, suc, ◌+◌, ◌*◌, Bool, false, cond, List, [], ◌∷◌, eqb}

@@ -8,7 +8,7 @@ use std::io;
 use std::io::Read;
 
 // One read, to the start of the bytes that are unread so far: how many came, none at the end of the file.
-fn unread<R: Read>(file: &mut R, rest: &mut [u8]) -> io::Result<usize>
+fn one_read<R: Read>(file: &mut R, rest: &mut [u8]) -> io::Result<usize>
     ensures count { IfOk result (λ n. IsPrefixLen n rest.new) }
     ensures bytes { IfOk result (λ n. Consumes (R.remaining file.old) (R.remaining file.new) (take n rest.new)) }
     ensures end { IfOk result (λ n. n ≡ 0 → 0 < length rest.new → IsAtEnd (R.remaining file.new)) }
@@ -25,7 +25,7 @@ pub fn read_full<R: Read>(file: &mut R, bytes: &mut [u8]) -> io::Result<usize>
 {
     let mut done = 0;
     while done < bytes.len() {
-        let n = unread(file, &mut bytes[done..])?;
+        let n = one_read(file, &mut bytes[done..])?;
         if n == 0 {
             return Ok(done);
         }

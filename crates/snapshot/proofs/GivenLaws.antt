@@ -152,5 +152,5 @@ module _ (f : State) (s after : List ℕ) where
           let r = marks-some f.sheet.rule_count t.rules rep.rules (m.taken refl) in
           read t (some r.0) true r.1 (refl, record { naming = rep.naming; few = rep.few; roles = rep.roles; rules = r.2 })
       go t rep false m =
-          let d = m.turned_away_lem (omega (arith, rep.few, long)) refl in
+          let d = m.turned_away (omega (arith, rep.few, long)) refl in
           read t none false (marks-none f.sheet.rule_count t.rules rep.rules d.0 d.1 d.2) refl

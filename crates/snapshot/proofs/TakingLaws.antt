@@ -64,12 +64,12 @@ module _ (mark : ℕ → Option ℕ) (n : ℕ) (before : List ℕ) where
 
     -- all are read
     pub finish : n ≤ i → MarksTaken mark n before after true
-    finish h = record { long = g.long; taken = λ e k l. g.each k (omega arith); turned_away_lem = λ m e. absurd (true_not_false true refl e) }
+    finish h = record { long = g.long; taken = λ e k l. g.each k (omega arith); turned_away = λ m e. absurd (true_not_false true refl e) }
 
     -- a record gives none
     pub turned : i < n → (r : Mark) → MarkIs r (mark i) → r.ok ≡ false → MarksTaken mark n before after false
-    turned l r h e = record { long = g.long; taken = λ q. absurd (true_not_false false q refl); turned_away_lem = λ m q. (i, l, mark-none r (mark i) h e) }
+    turned l r h e = record { long = g.long; taken = λ q. absurd (true_not_false false q refl); turned_away = λ m q. (i, l, mark-none r (mark i) h e) }
 
     -- there is no room for more
     pub full : i < n → length after ≤ i → MarksTaken mark n before after false
-    full l h = record { long = g.long; taken = λ q. absurd (true_not_false false q refl); turned_away_lem = λ m q. absurd (omega (arith, m, l, h, g.long)) }
+    full l h = record { long = g.long; taken = λ q. absurd (true_not_false false q refl); turned_away = λ m q. absurd (omega (arith, m, l, h, g.long)) }

@@ -35,7 +35,7 @@ mark_at rule_names rows records i = read_mark digits (unpacked (get_or rule_name
 pub record MarksTaken (mark : ℕ → Option ℕ) (n : ℕ) (before after : List ℕ) (ok : Bool) : Type 0 where
   pub long : length after ≡ length before
   pub taken : ok ≡ true → (i : ℕ) → i < n → mark i ≡ some (get_or after i 0)
-  pub turned_away_lem : n ≤ length before → ok ≡ false → (i : ℕ) × (i < n) × (mark i ≡ none)
+  pub turned_away : n ≤ length before → ok ≡ false → (i : ℕ) × (i < n) × (mark i ≡ none)
 
 -- LINES
 

@@ -12,7 +12,7 @@ fn bit(b: bool) -> u8
 }
 
 // Whether rule 0's past matches now.
-fn first_matches(f: &State) -> bool {
+fn first_matches(f: State) -> bool {
     if f.sheet.rule_count == 0 {
         return false;
     }
@@ -25,7 +25,7 @@ pub fn marked(f: State, events: &[u8], out: &mut [u8]) {
     let mut at = 0;
     let mut k = 0;
     while k < out.len() {
-        let hit = first_matches(&now);
+        let hit = first_matches(now);
         out[k] = bit(hit);
         let e = event_at(events, at);
         if !e.more {

@@ -2,11 +2,11 @@
 -- Assumes nothing.
 use mathlib.Core.Path.{sym, ◌∙◌}
 use native.Mathlib.Omega.{arith}
-use Rattle.batch.proofs.BatchLaws.{begun, record_there, room_there, room_same, called, finished, turned_away_lem}
+use Rattle.batch.proofs.BatchLaws.{begun, record_there, room_there, room_same, called, finished, turned_away}
 use Rattle.batch.proofs.batches.handle_batch.Goals as goal
 
 pub returns-then-not-fits : goal.returns-then-not-fits
-returns-then-not-fits c = turned_away_lem _ _ _ (sym c.fits.ensures ∙ c.if-not-fits.true)
+returns-then-not-fits c = turned_away _ _ _ (sym c.fits.ensures ∙ c.if-not-fits.true)
 
 pub loop-at-init : goal.loop-at-init
 loop-at-init c = let e = sym c.fits.ensures ∙ c.if-not-fits.false in (e, begun _ _ _ e)

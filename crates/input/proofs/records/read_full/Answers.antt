@@ -9,5 +9,5 @@ loop-done-preserved g c =
     let xs = c.loop-done.bytes in
     record {
       within = search rules;
-      bytes = taken_more _ _ _ done c.in_ok-n.n (take done xs) c.unread.new.rest _ (length-take-le done xs c.loop-done.invariant.within) read.count.0 c.loop-done.invariant.bytes read.bytes;
+      bytes = taken_more _ _ _ done c.in_ok-n.n (take done xs) c.one_read.new.rest _ (length-take-le done xs c.loop-done.invariant.within) read.count.0 c.loop-done.invariant.bytes read.bytes;
     }

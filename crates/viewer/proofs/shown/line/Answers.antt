@@ -5,5 +5,5 @@ use Rattle.viewer.proofs.shown.line.Goals as goal
 -- there are 32 names
 pub returns : goal.returns
 returns c =
-    let names : length c.args.v.now.state.sheet.rule_names ≡ 32 = search (rules, c.well_formed) in
-    line-written c.args.v.now _ _ _ _ refl names c.fill-len.ensures
+    let names : length c.args.v.state.sheet.rule_names ≡ 32 = search (rules, c.well_formed) in
+    line-written c.args.v _ _ _ _ refl names c.fill-len.ensures
