@@ -5,7 +5,9 @@
 
 pub mod bytes;
 pub mod logic;
+pub mod refusals;
 pub mod sizes;
 
 pub use bytes::wide;
 pub use logic::{both, either};
+pub use refusals::{Refusal, answer_number};
