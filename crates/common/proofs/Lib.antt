@@ -1,2 +1,3 @@
 pub mod Bools
 pub mod AllLaws
+pub mod RefusalLaws
