@@ -1,35 +1,15 @@
 -- Laws of a text whose bytes all have a class.
 -- Assumes nothing.
-use mathlib.Core.Path.{◌≡◌, refl, ap, ◌∙◌}
+use mathlib.Core.Path.{◌≡◌, refl, ap}
 use mathlib.Core.Bool.{Bool, true, false, not, ◌&&◌}
 use mathlib.Core.List.{List, [], ◌∷◌}
-use Prim.Native.Nat.{ℕ, zero, suc, ◌+◌, ◌<◌, ◌≤◌}
-use native.Mathlib.Numerals.{add-one}
+use Prim.Native.Nat.{ℕ, zero, suc, ◌<◌}
 use native.Mathlib.Omega.{arith}
 use lib.Dec.{eqb}
-use lib.ListN.{length, drop, get_or}
-use lib.Seq.{drop-cons}
-use borrow.Author.Tests.{eq-eqb, ne_eqb, eqb-true, eqb-false}
+use lib.ListN.{length, get_or}
+use borrow.Author.Tests.{ne_eqb, eqb-true, eqb-false}
+use Rattle.std.specs.List.{list_all}
 use Rattle.lexer.specs.Class.{class_of, all_classed}
-
-module _ (s : List ℕ) (i : ℕ) where
-  step : i < length s → all_classed (drop i s) ≡ not (eqb (class_of (get_or s i 0)) 0) && all_classed (drop (suc i) s)
-  unfolding all_classed
-  step h = ap all_classed (drop-cons s i 0 h)
-
-  -- a byte with a class leaves the question to the bytes after it
-  pub classed-more : i < length s → (class_of (get_or s i 0) ≡ 0 → ⊥) → all_classed (drop i s) ≡ all_classed (drop (i + 1) s)
-  classed-more h e = rw add-one (step h ∙ ap (λ (q : Bool). not q && all_classed (drop (suc i) s)) (ne_eqb (class_of (get_or s i 0)) 0 e))
-
-  pub classed_stop : i < length s → class_of (get_or s i 0) ≡ 0 → all_classed (drop i s) ≡ false
-  classed_stop h e = step h ∙ ap (λ (q : Bool). not q && all_classed (drop (suc i) s)) (eq-eqb (class_of (get_or s i 0)) 0 e)
-
-pub classed-end : (s : List ℕ) (i : ℕ) → length s ≤ i → all_classed (drop i s) ≡ true
-unfolding all_classed
-classed-end [] zero h = refl
-classed-end [] (suc i) h = refl
-classed-end (b ∷ s) zero h = absurd (omega arith)
-classed-end (b ∷ s) (suc i) h = classed-end s i (omega arith)
 
 -- no byte of a text is of class 0, byte by byte
 pub classed-each : (s : List ℕ) → all_classed s ≡ true → (i : ℕ) → i < length s → class_of (get_or s i 0) ≡ 0 → ⊥
@@ -63,3 +43,9 @@ classless-some (b ∷ s) h = go (eqb (class_of b) 0) refl h (classless-some s)
         → (i : ℕ) × (i < suc (length s)) × (class_of (get_or (b ∷ s) i 0) ≡ 0)
     go true q h ih = (0, omega arith, eqb-true (class_of b) 0 q)
     go false q h ih = let r = ih h in (suc r.0, omega (arith, r.1), r.2)
+
+-- all bytes pass the test of one
+pub classed_all : (s : List ℕ) → all_classed s ≡ list_all (λ b. not (eqb (class_of b) 0)) s
+unfolding all_classed
+classed_all [] = refl
+classed_all (b ∷ s) = ap (λ (q : Bool). not (eqb (class_of b) 0) && q) (classed_all s)

@@ -6,5 +6,6 @@ pub mod SameLaws
 pub mod TokenLaws
 pub mod NextLaws
 pub mod KindLaws
+pub mod KindNumbers
 pub mod WordLaws
 pub mod RenderLaws

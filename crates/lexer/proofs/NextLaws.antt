@@ -1,19 +1,14 @@
--- The first token of a text, found by `next`: each of its answers is the one that `lexeme_of` names; and what that tells of the text's tokens.
+-- The first token of a text, found by `next`: each of its answers is a `FirstToken`; and what `lexeme_of` tells of the text's tokens.
 -- Assumes nothing.
-use mathlib.Core.Path.{◌≡◌, refl, ap, sym, ◌∙◌}
-use mathlib.Core.Bool.{Bool, true, false, cond}
-use mathlib.Core.List.{List, [], ◌∷◌}
-use Prim.Native.Nat.{ℕ, suc, ◌+◌, ◌-◌, ◌≤◌, ◌<◌}
-use native.Mathlib.Omega.{arith}
-use lib.ListN.{length, drop, get_or}
-use lib.Seq.{drop-drop}
-use borrow.Author.Tests.{eq-eqb, ne_eqb}
+use Rattle.std.proofs.Common.{◌≡◌, ℕ, suc, ◌+◌, ◌-◌, ◌≤◌, ◌<◌, Bool, true, false, cond, List, [], ◌∷◌, length, take, drop, Some, None, Bor, refl, ap, sym, ◌∙◌, arith, eq-eqb, ne_eqb, drop-drop, take_all, length-drop}
 use Rattle.lexer.specs.Class.{class_of, wordy, spacey, marky}
 use Rattle.lexer.specs.Run.{run, after}
-use Rattle.lexer.specs.Words.{kind_of}
+use Rattle.lexer.specs.Words.{kind_of, kind_number}
+use Rattle.lexer.specs.Lexeme.{Lexeme, End, Word, Mark, Other}
 use Rattle.lexer.specs.Tokens.{word, mark, other, tokens, tokens_from, last, lexeme_at, lexeme_of, Next}
-use Rattle.lexer.specs.declared.tokens.Lexeme.{Lexeme}
-use Rattle.lexer.specs.declared.tokens.Lexeme.TheVariants.{End, Word, Mark, Other}
+use Rattle.lexer.specs.First.{FirstToken}
+use Rattle.lexer.specs.declared.words.WordKind.{WordKind}
+use Rattle.lexer.specs.declared.tokens.Lexeme.TheVariants as found
 use Rattle.lexer.proofs.RunLaws.{no_length, run_more, run_length, run_drop, after-size}
 use Rattle.lexer.proofs.TokenLaws.{tokens_after_spaces, tokens-mark, tokens-word, tokens-other, last-drop}
 
@@ -61,32 +56,61 @@ run-some b u w = go (wordy b) refl w
     go true e h = e
     go false e h = absurd (h refl)
 
--- The function's four answers are what `lexeme_of` names.
+-- What is left after a token is the text's end.
 
-module _ (s : List ℕ) where
-  named : (t : List ℕ) (l : Lexeme) → t ≡ after spacey s → lexeme_at t ≡ l → l ≡ lexeme_of s
+module _ (s : List ℕ) (b : ℕ) (u : List ℕ) (e : b ∷ u ≡ after spacey s) where
+  -- after one byte
+  rest-is : u ≡ last (length u) s
+  rest-is = rw (one_less u) at (after-rest spacey s (b ∷ u) 1 e (omega arith))
+
+  -- after a word
+  word-rest : after wordy (b ∷ u) ≡ last (length (after wordy (b ∷ u))) s
+  word-rest =
+      let t = b ∷ u in
+      sym (run_drop wordy t) ∙ after-rest spacey s t _ e (run_length wordy t) ∙ ap (λ (m : ℕ). last m s) (sym (after-size wordy t))
+
+-- Each answer of `next` is the first token: t is what is left after the spaces in front.
+
+module _ (s t : List ℕ) (e : t ≡ after spacey s) where
+  -- an answer's lexeme is that of t
+  named : (l : Lexeme) → lexeme_at t ≡ l → l ≡ lexeme_of s
   unfolding lexeme_of
-  named t l e h = sym h ∙ ap lexeme_at e
+  named l h = sym h ∙ ap lexeme_at e
 
-  pub next-end : (t : List ℕ) → t ≡ after spacey s → length t ≡ 0 → End ≡ lexeme_of s
-  next-end t e h = named t End e (ap lexeme_at (no_length t h))
+  -- nothing is left
+  pub first-none : length t ≡ 0 → FirstToken s None
+  first-none h = record { told = named End (ap lexeme_at (no_length t h)); parts = tt }
 
-  pub next-mark : (t : List ℕ) → t ≡ after spacey s → (length t ≡ 0 → ⊥) → class_of (get_or t 0 0) ≡ 5 → Mark (get_or t 0 0) (length t - 1) ≡ lexeme_of s
-  unfolding marky
-  next-mark [] e h m = absurd (h refl)
-  next-mark (b ∷ u) e h m = named (b ∷ u) _ e (rw (eq-eqb (class_of b) 5 m, one_less u) refl)
+  module _ (b : ℕ) (u : Bor (List ℕ)) (q : t ≡ b ∷ u.now) where
+    -- so the first byte and what is left after it are
+    front : b ∷ u.now ≡ after spacey s
+    front = sym q ∙ e
 
-  pub next-other : (t : List ℕ) → t ≡ after spacey s → (length t ≡ 0 → ⊥) → (class_of (get_or t 0 0) ≡ 5 → ⊥) → length (run wordy t) ≡ 0 → Other (get_or t 0 0) (length t - 1) ≡ lexeme_of s
-  unfolding marky
-  next-other [] e h m w = absurd (h refl)
-  next-other (b ∷ u) e h m w = named (b ∷ u) _ e (rw (ne_eqb (class_of b) 5 m, run_none b u w, one_less u) refl)
+    -- a byte of class 5
+    pub first-mark : class_of b ≡ 5 → FirstToken s (Some (found.Mark b, u))
+    unfolding marky
+    first-mark m = record { told = named (Mark b (length u.now)) (rw (q, eq-eqb (class_of b) 5 m) refl); parts = rest-is s b u.now front }
 
-  pub next_word : (t : List ℕ) → t ≡ after spacey s → (length t ≡ 0 → ⊥) → (class_of (get_or t 0 0) ≡ 5 → ⊥) → (length (run wordy t) ≡ 0 → ⊥)
-      → Word (kind_of (run wordy t)) (length t - length (run wordy t)) ≡ lexeme_of s
-  unfolding marky
-  next_word [] e h m w = absurd (h refl)
-  next_word (b ∷ u) e h m w =
-      named (b ∷ u) _ e (rw (ne_eqb (class_of b) 5 m, run-some b u w) (ap (Word (kind_of (run wordy (b ∷ u)))) (after-size wordy (b ∷ u))))
+    -- a byte of no word
+    pub first-other : (class_of b ≡ 5 → ⊥) → length (run wordy t) ≡ 0 → FirstToken s (Some (found.Other b, u))
+    unfolding marky
+    first-other m z = record {
+      told = named (Other b (length u.now)) (rw (q, ne_eqb (class_of b) 5 m, run_none b u.now (rw q at z)) refl);
+      parts = rest-is s b u.now front;
+    }
+
+    -- a word, with v left after it
+    pub first-word : (k : WordKind) (w v : Bor (List ℕ)) → (class_of b ≡ 5 → ⊥) → w.now ≡ run wordy t → (length w.now ≡ 0 → ⊥) → kind_number k ≡ kind_of w.now
+        → v.now ≡ take (length t - length w.now) (drop (length w.now) t) → FirstToken s (Some (found.Word k w, v))
+    unfolding marky
+    first-word k w v m h z n d =
+        let y : wordy b ≡ true = run-some b u.now (λ f. z (ap length h ∙ ap (λ (x : List ℕ). length (run wordy x)) q ∙ f)) in
+        let a : v.now ≡ after wordy t = d ∙ take_all (length t - length w.now) (drop (length w.now) t) (simp length-drop (omega arith)) ∙ ap (λ (x : List ℕ). drop (length x) t) h ∙ run_drop wordy t in
+        let g : v.now ≡ after wordy (b ∷ u.now) = a ∙ ap (after wordy) q in
+        record {
+          told = named (Word (kind_number k) (length v.now)) (rw (q, ne_eqb (class_of b) 5 m, y, n, h, g, q) refl);
+          parts = (h ∙ ap (run wordy) e, rw g (word-rest s b u.now front));
+        }
 
 -- What the lexeme tells of the text's tokens.
 
@@ -101,16 +125,13 @@ module _ (s : List ℕ) (b : ℕ) (u : List ℕ) (e : b ∷ u ≡ after spacey s
   shorter : length u < length s
   shorter = after-length spacey s (b ∷ u) e
 
-  rest-is : u ≡ last (length u) s
-  rest-is = rw (one_less u) at (after-rest spacey s (b ∷ u) 1 e (omega arith))
-
   means_mark : marky b ≡ true → Next s (Mark b (length u))
   unfolding Next
-  means_mark m = (shorter, begins ∙ tokens-mark b u m ∙ ap (λ (v : List ℕ). mark b ∷ tokens v) rest-is)
+  means_mark m = (shorter, begins ∙ tokens-mark b u m ∙ ap (λ (v : List ℕ). mark b ∷ tokens v) (rest-is s b u e))
 
   means_other : marky b ≡ false → wordy b ≡ false → Next s (Other b (length u))
   unfolding Next
-  means_other m w = (shorter, begins ∙ tokens-other b u m w (head_after spacey s b u e) ∙ ap (λ (v : List ℕ). other b ∷ tokens v) rest-is)
+  means_other m w = (shorter, begins ∙ tokens-other b u m w (head_after spacey s b u e) ∙ ap (λ (v : List ℕ). other b ∷ tokens v) (rest-is s b u e))
 
   means_word : wordy b ≡ true → Next s (Word (kind_of (run wordy (b ∷ u))) (length (after wordy (b ∷ u))))
   unfolding Next
@@ -119,8 +140,7 @@ module _ (s : List ℕ) (b : ℕ) (u : List ℕ) (e : b ∷ u ≡ after spacey s
       let l : length (run wordy t) ≤ length t = run_length wordy t in
       let n : length (after wordy t) ≡ length t - length (run wordy t) = after-size wordy t in
       let z : length (run wordy t) ≡ suc (length (run wordy u)) = run_more wordy t 0 (omega arith) w in
-      let q : after wordy t ≡ last (length (after wordy t)) s = sym (run_drop wordy t) ∙ after-rest spacey s t _ e l ∙ ap (λ (m : ℕ). last m s) (sym n) in
-      (omega (arith, shorter), (run wordy t, refl, begins ∙ tokens-word b u w ∙ ap (λ (v : List ℕ). word (run wordy t) ∷ tokens v) q, ap (run wordy) (sym e)))
+      (omega (arith, shorter), (run wordy t, refl, begins ∙ tokens-word b u w ∙ ap (λ (v : List ℕ). word (run wordy t) ∷ tokens v) (word-rest s b u e), ap (run wordy) (sym e)))
 
 means_at : (s t : List ℕ) → t ≡ after spacey s → Next s (lexeme_at t)
 unfolding Next

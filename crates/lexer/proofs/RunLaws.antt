@@ -9,6 +9,8 @@ use native.Mathlib.Numerals.{add-one}
 use native.Mathlib.Omega.{arith}
 use lib.ListN.{length, take, drop, get_or, length-drop}
 use lib.Seq.{take_all}
+use Rattle.std.specs.List.{prefix_len}
+use Rattle.std.proofs.lemmas.List.Folds.{length-prefix_len}
 use Rattle.lexer.specs.Run.{run, after}
 
 -- a list of no length is empty
@@ -73,3 +75,17 @@ module _ (p : ℕ → Bool) where
 
   pub after_part : (s : List ℕ) → take (length s - length (run p s)) (drop (length (run p s)) s) ≡ after p s
   after_part s = take_all (length s - length (run p s)) (drop (length (run p s)) s) (simp length-drop (omega arith)) ∙ run_drop s
+
+  -- as long as the longest front that passes
+  pub run_prefix : (s : List ℕ) → length (run p s) ≡ prefix_len p s
+  unfolding run
+  run_prefix [] = refl
+  run_prefix (b ∷ s) = go (p b) (run_prefix s)
+    where
+      go : (q : Bool) → length (run p s) ≡ prefix_len p s → length (cond q (b ∷ run p s) []) ≡ cond q (1 + prefix_len p s) 0
+      go true e = omega arith
+      go false e = refl
+
+  -- counted by an iterator: as long as the run
+  pub counted : (s : List ℕ) (n : ℕ) → n ≡ length (take (prefix_len p s) s) → n ≡ length (run p s)
+  counted s n e = e ∙ length-prefix_len p s ∙ sym (run_prefix s)

@@ -71,11 +71,6 @@ pub last-all : (s : List ℕ) → last (length s) s ≡ s
 unfolding last
 last-all s = rw (sub_self (length s)) refl
 
--- all of it, where there are no more
-pub last_more : (n : ℕ) (s : List ℕ) → length s ≤ n → last n s ≡ s
-unfolding last
-last_more n s h = let z : length s - n ≡ 0 = omega arith in rw z refl
-
 pub last-length : (n : ℕ) (s : List ℕ) → n ≤ length s → length (last n s) ≡ n
 unfolding last
 last-length n s h = simp length-drop (omega arith)
@@ -93,9 +88,9 @@ last-last n m s h h₂ =
     let q : length s - m + (length s - (length s - m) - n) ≡ length s - n = omega arith in
     rw (length-drop, drop-drop) (ap (λ (j : ℕ). drop j s) q)
 
-pub part_last : (n : ℕ) (s : List ℕ) → n ≤ length s → take (length s - (length s - n)) (drop (length s - n) s) ≡ last n s
+pub part_last : (n : ℕ) (s : List ℕ) → take (length s - (length s - n)) (drop (length s - n) s) ≡ last n s
 unfolding last
-part_last n s h = take_all (length s - (length s - n)) (drop (length s - n) s) (simp length-drop (omega arith))
+part_last n s = take_all (length s - (length s - n)) (drop (length s - n) s) (simp length-drop (omega arith))
 
 -- there are no more tokens than bytes
 pub tokens-length : (i : Bool) (s : List ℕ) → length (tokens_from i s) ≤ length s

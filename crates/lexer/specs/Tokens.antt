@@ -4,8 +4,7 @@ use Rattle.std.specs.Prelude.{◌≡◌, ℕ, ◌-◌, ◌<◌, Bool, true, fals
 use Rattle.lexer.specs.Class.{wordy, spacey, marky}
 use Rattle.lexer.specs.Run.{run, after}
 use Rattle.lexer.specs.Words.{kind_of}
-use Rattle.lexer.specs.declared.tokens.Lexeme.{Lexeme}
-use Rattle.lexer.specs.declared.tokens.Lexeme.TheVariants.{End, Word, Mark, Other}
+use Rattle.lexer.specs.Lexeme.{Lexeme, End, Word, Mark, Other}
 
 -- a word with its bytes, a class 5 byte, or a byte that stands in no token of the language (class 6, and class 0 in texts of no record)
 pub data Token : Type 0 where

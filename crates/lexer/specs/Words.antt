@@ -1,8 +1,10 @@
 -- Reserved words, names and digits. Document 01, "A record".
 -- Assumes nothing.
-use Rattle.std.specs.Prelude.{ℕ, suc, ◌-◌, Bool, true, false, cond, ◌&&◌, List, [], ◌∷◌, eqb, length, get_or}
+use Rattle.std.specs.Prelude.{ℕ, suc, ◌+◌, ◌-◌, Bool, true, false, cond, ◌&&◌, List, [], ◌∷◌, eqb, length, get_or}
 use Rattle.common.specs.Limits.{name_size}
 use Rattle.lexer.specs.Class.{class_of, within}
+use Rattle.lexer.specs.declared.words.WordKind.{WordKind}
+use Rattle.lexer.specs.declared.words.WordKind.TheVariants.{Name, Role, Under, Rule, Any, Not, Or, Pass, Hold, Send, Anew, Digit, Other}
 
 -- whether two lists are the same
 unfoldable pub same : List ℕ → List ℕ → Bool
@@ -94,6 +96,22 @@ other_k = 11
 -- the word of the one digit d is of the kind zeroK + d
 abbrev pub zero_k : ℕ
 zero_k = 12
+
+-- the number of a kind
+unfoldable pub kind_number : WordKind → ℕ
+kind_number Name = name_k
+kind_number Role = role_k
+kind_number Under = under_k
+kind_number Rule = rule_k
+kind_number Any = any_k
+kind_number Not = not_k
+kind_number Or = or_k
+kind_number Pass = pass_k
+kind_number Hold = hold_k
+kind_number Send = send_k
+kind_number Anew = anew_k
+kind_number (Digit d) = zero_k + d
+kind_number Other = other_k
 
 -- "a word of 1 to 8 bytes that begins with a letter"
 unfoldable pub name_like : List ℕ → Bool

@@ -1,9 +1,10 @@
 // The class of a byte, from a table of 256 entries. Document 01, "A record".
-ghost use Rattle.std.specs.Prelude.{◌≡◌, get_or};
+ghost use Rattle.std.specs.Prelude.{◌≡◌};
 ghost use Rattle.lexer.specs.Class.{class_of, within};
 
 // "1 for space; 2 for `a` to `z`; 3 for `0` to `9`; 4 for hyphen; 5 for `: ; ( ) [ ] < > + * #`; 6 for the other bytes from 33 to 126; 0 for the rest"
-pub const CLASSES: [u8; 256] = [
+// A static and no const: a constant array would be written out anew at each byte that is looked up.
+pub static CLASSES: [u8; 256] = [
     0, 0, 0, 0, 0, 0, 0, 0, 0, 0, 0, 0, 0, 0, 0, 0, 0, 0, 0, 0, 0, 0, 0, 0, 0, 0, 0, 0, 0, 0, 0, 0,
     1, 6, 6, 5, 6, 6, 6, 6, 5, 5, 5, 5, 6, 4, 6, 6, 3, 3, 3, 3, 3, 3, 3, 3, 3, 3, 5, 5, 5, 6, 5, 6,
     6, 6, 6, 6, 6, 6, 6, 6, 6, 6, 6, 6, 6, 6, 6, 6, 6, 6, 6, 6, 6, 6, 6, 6, 6, 6, 6, 5, 6, 5, 6, 6,
@@ -14,26 +15,16 @@ pub const CLASSES: [u8; 256] = [
     0, 0, 0, 0, 0, 0, 0, 0, 0, 0, 0, 0, 0, 0, 0, 0, 0, 0, 0, 0, 0, 0, 0, 0, 0, 0, 0, 0, 0, 0, 0, 0,
 ];
 
-// The class of a byte.
+// The class of a byte. The classes go by the numbers 0 to 6 that document 01 gives them.
 pub fn class_of(b: u8) -> u8
     ensures { result ≡ class_of b }
 {
     CLASSES[b as usize]
 }
 
-// The class of a byte, from a copy of the table: a loop makes one copy and not one at every byte.
-pub fn class_in(classes: &[u8; 256], b: u8) -> u8
-    ensures { result ≡ get_or classes.now b 0 }
-{
-    classes[b as usize]
-}
-
 // Whether the bytes of a class stand in words: 2, 3 and 4.
 pub fn in_words(class: u8) -> bool
     ensures { result ≡ within 2 4 class }
 {
-    if class < 2 {
-        return false;
-    }
-    class <= 4
+    2 <= class && class <= 4
 }

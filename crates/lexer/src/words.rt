@@ -1,85 +1,44 @@
 // Words as parts of the text, and their kinds.
-ghost use Rattle.std.specs.Prelude.{◌≡◌, length};
+ghost use Rattle.std.specs.Prelude.{◌≡◌};
 ghost use Rattle.lexer.specs.Class.{wordy, spacey};
 ghost use Rattle.lexer.specs.Run.{run, after};
-ghost use Rattle.lexer.specs.Words.{same, kind_of, name_like, digit_kind};
+ghost use Rattle.lexer.specs.Words.{same, kind_of, name_like, digit_kind, kind_number};
 ghost use Rattle.lexer.specs.Tokens.{first_word};
 
-use crate::classes::{CLASSES, class_in, class_of, in_words};
+use crate::classes::{class_of, in_words};
 use common::sizes::NAME_SIZE;
 
-// The kinds of words: a name; the reserved words; any other word; and from ZERO on, the words of one digit.
-pub const NAME: u8 = 0;
-
-pub const ROLE: u8 = 1;
-
-pub const UNDER: u8 = 2;
-
-pub const RULE: u8 = 3;
-
-pub const ANY: u8 = 4;
-
-pub const NOT: u8 = 5;
-
-pub const OR: u8 = 6;
-
-pub const PASS: u8 = 7;
-
-pub const HOLD: u8 = 8;
-
-pub const SEND: u8 = 9;
-
-pub const ANEW: u8 = 10;
-
-pub const OTHER: u8 = 11;
-
-pub const ZERO: u8 = 12;
-
-// How many bytes of words a text begins with.
-fn word_length(s: &[u8]) -> usize
-    ensures { result ≡ length (run wordy s.now) }
-{
-    let classes = CLASSES;
-    let mut i = 0;
-    while i < s.len() {
-        if in_words(class_in(&classes, s[i])) {
-            i += 1;
-        } else {
-            return i;
-        }
-    }
-    i
+// The kinds of words: a name; each reserved word; the word of one digit; any other word.
+#[derive(Clone, Copy, Debug, PartialEq, Eq)]
+pub enum WordKind {
+    Name,
+    Role,
+    Under,
+    Rule,
+    Any,
+    Not,
+    Or,
+    Pass,
+    Hold,
+    Send,
+    Anew,
+    Digit(u8),
+    Other,
 }
 
 // The word that a text begins with, as a part of it; empty where it begins with none.
 pub fn word(s: &[u8]) -> &[u8]
     ensures { result.now ≡ run wordy s.now }
 {
-    let n = word_length(s);
+    let n = s.iter().take_while(|b| in_words(class_of(**b))).count();
     &s[..n]
-}
-
-// How many spaces a text begins with.
-fn spaces(s: &[u8]) -> usize
-    ensures { result ≡ length (run spacey s.now) }
-{
-    let classes = CLASSES;
-    let mut i = 0;
-    while i < s.len() {
-        if class_in(&classes, s[i]) == 1 {
-            i += 1;
-        } else {
-            return i;
-        }
-    }
-    i
 }
 
 // What is left of a text after the spaces that it begins with.
 pub fn skip(s: &[u8]) -> &[u8]
     ensures { result.now ≡ after spacey s.now }
 {
-    let n = spaces(s);
+    let n = s.iter().take_while(|b| class_of(**b) == 1).count();
     &s[n..]
 }
 
@@ -87,94 +46,74 @@ pub fn skip(s: &[u8]) -> &[u8]
 pub fn first_word(s: &[u8]) -> &[u8]
     ensures { result.now ≡ first_word s.now }
 {
-    let t = skip(s);
-    word(t)
+    word(skip(s))
 }
 
 // Whether two slices hold the same bytes.
 pub fn same(a: &[u8], k: &[u8]) -> bool
     ensures { result ≡ same a.now k.now }
 {
-    if a.len() != k.len() {
-        return false;
-    }
-    let mut i = 0;
-    while i < a.len() {
-        if a[i] != k[i] {
-            return false;
-        }
-        i += 1;
-    }
-    true
+    a == k
 }
 
 // Whether a word has 1 to 8 bytes and begins with a letter.
+#[tactic(auto, unfolding(crate::specs::Words::name_like))]
 fn name_like(w: &[u8]) -> bool
     ensures { result ≡ name_like w.now }
 {
-    let n = w.len();
-    if n == 0 {
-        return false;
-    }
-    if NAME_SIZE < n {
-        return false;
-    }
-    class_of(w[0]) == 2
+    1 <= w.len() && w.len() <= NAME_SIZE && class_of(w[0]) == 2
 }
 
 // The kind of a word that is neither reserved nor a name.
-fn digit_kind(w: &[u8]) -> u8
-    ensures { result ≡ digit_kind w.now }
+#[tactic(auto, unfolding(crate::specs::Words::digit_kind, crate::specs::Words::kind_number))]
+fn digit_kind(w: &[u8]) -> WordKind
+    ensures { kind_number result ≡ digit_kind w.now }
 {
-    if w.len() != 1 {
-        return OTHER;
+    match w {
+        [b @ b'0'..=b'9'] => WordKind::Digit(*b - b'0'),
+        _ => WordKind::Other,
     }
-    let b = w[0];
-    if b < b'0' {
-        return OTHER;
-    }
-    if b'9' < b {
-        return OTHER;
-    }
-    b - 36
 }
 
 // The kind of a word. Reserved words are compared with constant bytes.
-pub fn word_kind(w: &[u8]) -> u8
-    ensures { result ≡ kind_of w.now }
+// Kept: one test after another. A match on these byte strings compiles to a tree of tests of single bytes, whose last arm is reached in some thirty
+// ways, each with a proof of its own; these tests need none.
+#[tactic(auto, using(crate::proofs::SameLaws::pointwise_same), unfolding(crate::specs::Words::kind_of, crate::specs::Words::kind_number))]
+pub fn word_kind(w: &[u8]) -> WordKind
+    ensures { kind_number result ≡ kind_of w.now }
 {
-    if same(w, b"role") {
-        return ROLE;
+    if w == b"role".as_slice() {
+        return WordKind::Role;
     }
-    if same(w, b"under") {
-        return UNDER;
+    if w == b"under".as_slice() {
+        return WordKind::Under;
     }
-    if same(w, b"rule") {
-        return RULE;
+    if w == b"rule".as_slice() {
+        return WordKind::Rule;
     }
-    if same(w, b"any") {
-        return ANY;
+    if w == b"any".as_slice() {
+        return WordKind::Any;
     }
-    if same(w, b"not") {
-        return NOT;
+    if w == b"not".as_slice() {
+        return WordKind::Not;
     }
-    if same(w, b"or") {
-        return OR;
+    if w == b"or".as_slice() {
+        return WordKind::Or;
     }
-    if same(w, b"pass") {
-        return PASS;
+    if w == b"pass".as_slice() {
+        return WordKind::Pass;
     }
-    if same(w, b"hold") {
-        return HOLD;
+    if w == b"hold".as_slice() {
+        return WordKind::Hold;
     }
-    if same(w, b"send") {
-        return SEND;
+    if w == b"send".as_slice() {
+        return WordKind::Send;
     }
-    if same(w, b"anew") {
-        return ANEW;
+    if w == b"anew".as_slice() {
+        return WordKind::Anew;
     }
     if name_like(w) {
-        return NAME;
+        return WordKind::Name;
     }
     digit_kind(w)
 }

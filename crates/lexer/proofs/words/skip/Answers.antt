@@ -1,15 +1,15 @@
-use native.Mathlib.Omega.{arith}
+use Rattle.std.proofs.Common.{rules, tests}
+use Rattle.std.proofs.lemmas.Iterator.{YieldsList-from_slice}
+use Rattle.std.proofs.lemmas.Iterator.Consumers.{count_from_yields_List}
+use Rattle.std.proofs.lemmas.Iterator.Search.{YieldsList-from_take_while}
 use Rattle.lexer.specs.Class.{spacey}
-use Rattle.lexer.proofs.RunLaws.{run_length, after_part}
+use Rattle.lexer.proofs.RunLaws.{counted, after_part}
 use Rattle.lexer.proofs.words.skip.Goals as goal
 
-pub slice_bounds-result-count : goal.slice_bounds-result-count
-slice_bounds-result-count c = omega (arith, run_length spacey c.args.s.now)
-
-pub slice_bounds-result-start : goal.slice_bounds-result-start
-slice_bounds-result-start c = omega (arith, run_length spacey c.args.s.now)
-
+-- the spaces that the text begins with are counted
 pub returns : goal.returns
+unfolding spacey
 returns c =
     let s = c.args.s.now in
-    rw c.spaces-n.ensures (after_part spacey s)
+    let n = counted spacey s _ (count_from_yields_List c.take_while.result _ c.count-n.ensures.ran (YieldsList-from_take_while _ spacey (YieldsList-from_slice s cc) c.take_while.ensures.closure c.take_while.ensures.done (λ x b q k. search (rules, tests)))) in
+    rw n (after_part spacey s)

@@ -1,16 +1,15 @@
-use mathlib.Core.Path.{sym}
-use native.Mathlib.Omega.{arith}
+use Rattle.std.proofs.Common.{rules, tests, ◌∙◌, ap, take, ℕ}
+use Rattle.std.proofs.lemmas.Iterator.{YieldsList-from_slice}
+use Rattle.std.proofs.lemmas.Iterator.Consumers.{count_from_yields_List}
+use Rattle.std.proofs.lemmas.Iterator.Search.{YieldsList-from_take_while}
 use Rattle.lexer.specs.Class.{wordy}
-use lib.Seq.{length-take-le}
-use Rattle.lexer.proofs.RunLaws.{run_length, run_take}
+use Rattle.lexer.proofs.RunLaws.{counted, run_take}
 use Rattle.lexer.proofs.words.word.Goals as goal
 
-pub slice_bounds-result-end : goal.slice_bounds-result-end
-slice_bounds-result-end c =
-    let s = c.before.args.s.now in
-    sym (length-take-le _ s (omega (arith, run_length wordy s)))
-
+-- the bytes of words that the text begins with are counted
 pub returns : goal.returns
+unfolding wordy
 returns c =
-    let s = c.before.args.s.now in
-    rw c.word_length-n.ensures (run_take wordy s)
+    let s = c.args.s.now in
+    let n = counted wordy s _ (count_from_yields_List c.take_while.result _ c.count-n.ensures.ran (YieldsList-from_take_while _ wordy (YieldsList-from_slice s cc) c.take_while.ensures.closure c.take_while.ensures.done (λ x b q k. search (rules, tests)))) in
+    ap (λ (m : ℕ). take m s) n ∙ run_take wordy s
