@@ -1,19 +1,52 @@
 -- Laws of packed names: they fit 64 bits, their columns are those of the name, and none stands for two names.
 -- Assumes nothing.
-use mathlib.Core.Path.{◌≡◌, refl, sym, ap, ◌∙◌}
-use mathlib.Core.List.{List, [], ◌∷◌}
-use Prim.Native.Nat.{ℕ, zero, suc, ◌<◌}
-use native.Mathlib.Omega.{arith}
-use lib.ListN.{length, get_or, get_or-eq_default}
-use lib.Seq.{ext_get_or}
+use Rattle.std.proofs.Common.{◌≡◌, refl, sym, ap, subst, ◌∙◌, Bool, true, false, List, ℕ, zero, suc, ◌+◌, ◌<◌, ◌≤◌, arith, eqb, length, get_or, eqb-true, le-ltb, ext_get_or}
+use lib.ListN.{get_or-eq_default}
+use borrow.Author.Tests.{eqb-false}
+use Rattle.std.specs.Int.{w64, from_be_bytes, to_be_bytes}
+use Rattle.std.specs.Fn.{Called}
+use Rattle.std.specs.Array.{IsFromFnResultFrom}
+use denote.Param.Members.{Mut}
 use Rattle.names.specs.Name.{column_of, packed, column_at}
 use Rattle.names.specs.Shape.{Bytes, Packable}
 
--- an element of a list is the same whatever would stand after its end
-pub get_d_any : {A : Type 0} (l : List A) (i : ℕ) (d d' : A) → i < length l → get_or l i d ≡ get_or l i d'
-get_d_any [] i d d' h = absurd (omega arith)
-get_d_any (x ∷ l) zero d d' h = refl
-get_d_any (x ∷ l) (suc i) d d' h = get_d_any l i d d' (omega arith)
+-- the bytes of a number, the highest first, are its columns
+pub column_byte : (n i : ℕ) → get_or (to_be_bytes w64 n) i 32 ≡ column_at n i
+unfolding column_at
+column_byte n zero = refl
+column_byte n (suc zero) = refl
+column_byte n (suc (suc zero)) = refl
+column_byte n (suc (suc (suc zero))) = refl
+column_byte n (suc (suc (suc (suc zero)))) = refl
+column_byte n (suc (suc (suc (suc (suc zero))))) = refl
+column_byte n (suc (suc (suc (suc (suc (suc zero)))))) = refl
+column_byte n (suc (suc (suc (suc (suc (suc (suc zero))))))) = omega arith
+column_byte n (suc (suc (suc (suc (suc (suc (suc (suc i)))))))) = rw (le-ltb (suc (suc (suc (suc (suc (suc (suc (suc i)))))))) 8 (omega arith)) refl
+
+-- an array made by a closure that keeps what it captures: at each place the closure's answer there
+pub made_each : {F : Type 0} (g : Mut F (ℕ × Unit {0}) ℕ) (f : F) (answer : ℕ → ℕ) (ys : List ℕ) (i n : ℕ) → ((j y : ℕ) (q : F) → Called g f (j, tt) y q → (q ≡ f) × (y ≡ answer j))
+    → IsFromFnResultFrom g f ys i n → (k : ℕ) → i ≤ k → k < i + n → get_or ys k 0 ≡ answer k
+made_each {F} g f answer ys i zero h m k l b = absurd (omega arith)
+made_each {F} g f answer ys i (suc n) h m k l b =
+    go (eqb k i) refl (λ below. made_each g f answer ys (i + 1) n h (subst (λ (q : F). IsFromFnResultFrom g q ys (i + 1) n) (h i m.1 m.0 m.3).0 m.4) k below (omega arith))
+  where
+    go : (here : Bool) → eqb k i ≡ here → (i + 1 ≤ k → get_or ys k 0 ≡ answer k) → get_or ys k 0 ≡ answer k
+    go true e later = rw (eqb-true k i e) (m.2.1 0 ∙ (h i m.1 m.0 m.3).1)
+    go false e later = let other = eqb-false k i e in later (omega arith)
+
+-- eight bytes that are a word's columns, as one number
+pub packed_joined : (w bs : List ℕ) (n : ℕ) → ((i : ℕ) → i < 8 → get_or bs i 0 ≡ column_of w i) → n ≡ from_be_bytes w64 bs → n ≡ packed w
+unfolding packed
+packed_joined w bs n h e =
+    let h₀ = h 0 (omega arith) in
+    let h₁ = h 1 (omega arith) in
+    let h₂ = h 2 (omega arith) in
+    let h₃ = h 3 (omega arith) in
+    let h₄ = h 4 (omega arith) in
+    let h₅ = h 5 (omega arith) in
+    let h₆ = h 6 (omega arith) in
+    let h₇ = h 7 (omega arith) in
+    omega arith
 
 module _ (w : List ℕ) (h : Bytes w) where
   -- the eight columns are bytes, as one fact

@@ -1,15 +1,10 @@
 -- Laws of the place of a packed name among those held.
 -- Assumes nothing.
-use mathlib.Core.Path.{◌≡◌, refl, sym}
-use mathlib.Core.Bool.{Bool, true, false, ◌||◌}
-use mathlib.Core.List.{List, [], ◌∷◌}
-use mathlib.Core.Logic.{◌↔◌}
+use Rattle.std.proofs.Common.{◌≡◌, refl, sym, Bool, true, false, cond, not, ◌||◌, List, [], ◌∷◌, ◌↔◌, ℕ, zero, suc, ◌+◌, ◌<◌, ◌≤◌, arith, eqb, ltb, length, get_or, eqb-true, eq-eqb, ne_eqb, lt-ltb, le-ltb}
 use Prim.Native.Nat.compare
-use Prim.Native.Nat.{ℕ, zero, suc, ◌<◌, ◌≤◌}
-use native.Mathlib.Omega.{arith}
-use lib.Dec.{eqb, ltb}
-use lib.ListN.{length, get_or}
-use borrow.Author.Tests.{eqb-true, eqb-false, eq-eqb, ne_eqb, lt-ltb, le-ltb}
+use borrow.Author.Tests.{eqb-false}
+use Rattle.std.specs.List.{position_or_len}
+use Rattle.std.proofs.lemmas.List.Recursion.{is_position_or_len}
 use Rattle.lexer.specs.Class.{among}
 use Rattle.lexer.specs.Run.{run}
 use Rattle.names.specs.Place.{differs, place}
@@ -54,3 +49,12 @@ module _ (x : ℕ) where
       go : (b : Bool) → eqb n x ≡ b → ltb (place x ns) (length ns) ≡ among x ns → ltb (place x (n ∷ ns)) (suc (length ns)) ≡ eqb x n || among x ns
       go true e ih = let p = eqb-true n x e in rw (place_here n ns p, eq-eqb x n (sym p)) (lt-ltb 0 (suc (length ns)) (omega arith))
       go false e ih = let p = eqb-false n x e in rw (place-later n ns p, compare.suc-suc, ne_eqb x n (λ q. p (sym q))) ih
+
+  -- a search from the front stops there
+  pub place_first : (ns : List ℕ) → place x ns ≡ position_or_len (λ n. eqb n x) ns
+  unfolding place run differs
+  place_first ns = is_position_or_len (place x) (λ n. eqb n x) refl (λ n ns. step (eqb n x) n ns) ns
+    where
+      step : (b : Bool) (n : ℕ) (ns : List ℕ) → length (cond (not b) (n ∷ run (differs x) ns) []) ≡ cond b 0 (1 + place x ns)
+      step true n ns = refl
+      step false n ns = omega arith

@@ -2,34 +2,27 @@
 ghost use Rattle.std.specs.Prelude.{◌≡◌};
 ghost use Rattle.names.specs.Name.{column_of, packed, column_at};
 
+use std::array;
+
 // Column i of a word padded with spaces.
-fn padded(w: &[u8], i: usize) -> u8
-    ensures { result ≡ column_of w.now i }
+#[tactic(auto, unfolding(crate::specs::Name::column_of))]
+fn padded(word: &[u8], i: usize) -> u8
+    ensures { result ≡ column_of word.now i }
 {
-    if i < w.len() { w[i] } else { 32 }
+    word.get(i).copied().unwrap_or(b' ')
 }
 
 // The first eight columns of a word padded with spaces, as one number.
-pub fn pack(w: &[u8]) -> u64
-    ensures { result ≡ packed w.now }
+pub fn pack(word: &[u8]) -> u64
+    ensures { result ≡ packed word.now }
 {
-    let a = padded(w, 0) as u64;
-    let b = padded(w, 1) as u64;
-    let c = padded(w, 2) as u64;
-    let d = padded(w, 3) as u64;
-    let e = padded(w, 4) as u64;
-    let f = padded(w, 5) as u64;
-    let g = padded(w, 6) as u64;
-    let h = padded(w, 7) as u64;
-    ((((((a * 256 + b) * 256 + c) * 256 + d) * 256 + e) * 256 + f) * 256 + g) * 256 + h
+    u64::from_be_bytes(array::from_fn(|i| padded(word, i)))
 }
 
 // Column i of a packed name, 0 the leftmost; a space where there is no such column.
-pub fn column(n: u64, i: usize) -> u8
-    ensures { result ≡ column_at n i }
+#[tactic(auto, using(crate::proofs::ColumnLaws::column_byte))]
+pub fn column(name: u64, i: usize) -> u8
+    ensures { result ≡ column_at name i }
 {
-    if 7 < i {
-        return 32;
-    }
-    ((n >> ((7 - i) * 8)) % 256) as u8
+    name.to_be_bytes().get(i).copied().unwrap_or(b' ')
 }
