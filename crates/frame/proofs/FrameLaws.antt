@@ -1,20 +1,13 @@
 -- Which bytes have which frame: a law for each answer, and what each answer says, exactly.
 -- Assumes nothing.
-use mathlib.Core.Path.{◌≡◌, refl, ap, ◌∙◌, subst}
-use mathlib.Core.Bool.{Bool, true, false, cond}
-use mathlib.Core.List.{List, [], ◌∷◌, ◌++◌}
-use mathlib.Core.Logic.{◌↔◌, ◌⊎◌, inl, inr}
-use Prim.Native.Nat.{ℕ}
-use native.Mathlib.Omega.{arith}
-use lib.Dec.{eqb}
-use lib.ListN.{length, get_or}
-use borrow.Author.Tests.{eq-eqb, ne_eqb, eqb-true, eqb-false}
+use Rattle.std.proofs.Common.{◌≡◌, refl, ap, ◌∙◌, subst, Bool, true, false, cond, List, [], ◌∷◌, ◌++◌, ◌↔◌, ◌⊎◌, inl, inr, ℕ, arith, eqb, length, get_or, eq-eqb, ne_eqb, eqb-true}
+use borrow.Author.Tests.{eqb-false}
+use Rattle.common.specs.Refusals.{answer_number}
 use Rattle.lexer.specs.Class.{all_classed}
 use Rattle.frame.specs.Text.{text_of}
-use Rattle.frame.specs.Record.{refusal, line_byte, event_byte, newline, kind_by, frame_of}
+use Rattle.frame.specs.Record.{refusal, line_byte, event_byte, newline, kind_by, frame_of, answered}
 use Rattle.frame.specs.Framed.{Framed, Fault, kindless, endless, classless, Says}
-use Rattle.frame.specs.declared.records.Frame.{Frame}
-use Rattle.frame.specs.declared.records.Frame.TheVariants.{Line, Event, WrongLength, Malformed}
+use Rattle.frame.specs.Record.{Frame, Line, Event, WrongLength, Malformed}
 use Rattle.frame.proofs.TextLaws.{text-classed, classed-text, text-classless, record_parts}
 
 module _ (s : List ℕ) where
@@ -121,6 +114,13 @@ refusal-none s = (λ e. which (frame_of s) (says s) e, back)
     back : Framed line_byte s ⊎ Framed event_byte s → refusal (frame_of s) ≡ 0
     back (inl h) = ap refusal (framed-kind line_byte s h)
     back (inr h) = ap refusal (framed-kind event_byte s h)
+
+-- what the code answers has the number of the refusal, 0 where there is none
+pub answered-number : (f : Frame) → answer_number (answered f) ≡ refusal f
+answered-number Line = refl
+answered-number Event = refl
+answered-number WrongLength = refl
+answered-number Malformed = refl
 
 -- a record is its first byte, its text and the newline
 pub framed-parts : (b : ℕ) (s : List ℕ) → Framed b s → s ≡ b ∷ (text_of s ++ (newline ∷ []))

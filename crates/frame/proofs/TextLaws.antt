@@ -1,25 +1,16 @@
 -- Laws of the text of a record, and of the classes of its bytes.
 -- Assumes nothing.
-use mathlib.Core.Path.{◌≡◌, refl, ap, sym, ◌∙◌}
-use mathlib.Core.Bool.{true, false}
-use mathlib.Core.List.{List, [], ◌∷◌, ◌++◌}
-use Prim.Native.Nat.{ℕ, zero, suc, ◌+◌, ◌-◌, ◌<◌, ◌≤◌}
-use native.Mathlib.Omega.{arith}
-use lib.ListN.{length, take, drop, get_or, length-take, length-drop, drop_of_length-le}
-use lib.Seq.{take_all, split_at, get_or-take, get_or-drop}
+use Rattle.std.proofs.Common.{min, ◌≡◌, refl, ap, sym, ◌∙◌, true, false, List, [], ◌∷◌, ◌++◌, ℕ, zero, suc, ◌+◌, ◌<◌, ◌≤◌, arith, length, take, drop, get_or, length-take, length-drop, drop_of_length-le, get_or-take, get_or-drop}
+use lib.Seq.{split_at}
+use Rattle.std.proofs.lemmas.List.{take_min}
+use Rattle.std.proofs.Math.Nat.{min_comm}
 use Rattle.lexer.specs.Class.{class_of, all_classed}
 use Rattle.lexer.proofs.ClassedLaws.{classed-each, each-classed, classless-some}
 use Rattle.frame.specs.Text.{text_of}
 
--- the text of bytes of any length, by their number
-pub text-empty : (s : List ℕ) → length s ≡ 0 → s ≡ text_of s
-unfolding text_of
-text-empty [] e = refl
-text-empty (b ∷ s) e = absurd (omega arith)
-
-pub text-short : (s : List ℕ) → length s < 127 → take (length s - 1) (drop 1 s) ≡ text_of s
-unfolding text_of
-text-short s h = take_all (length s - 1) (drop 1 s) (simp length-drop (omega arith)) ∙ sym (take_all 126 (drop 1 s) (simp length-drop (omega arith)))
+-- a part cut at 126 bytes, or at its end where it is shorter
+pub text_cut : (s : List ℕ) → take (min (length s) 126) s ≡ take 126 s
+text_cut s = rw (min_comm (length s) 126) (take_min 126 s)
 
 parts : (s : List ℕ) → length s ≡ 128 → s ≡ get_or s 0 0 ∷ (text_of s ++ (get_or s 127 0 ∷ []))
 unfolding text_of

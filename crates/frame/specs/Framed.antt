@@ -4,8 +4,7 @@ use Rattle.std.specs.Prelude.{◌≡◌, List, ℕ, ◌≤◌, length, get_or}
 use Rattle.common.specs.Limits.{record_size}
 use Rattle.lexer.specs.Class.{class_of}
 use Rattle.frame.specs.Record.{line_byte, event_byte, newline}
-use Rattle.frame.specs.declared.records.Frame.{Frame}
-use Rattle.frame.specs.declared.records.Frame.TheVariants.{Line, Event, WrongLength, Malformed}
+use Rattle.frame.specs.Record.{Frame, Line, Event, WrongLength, Malformed}
 
 -- "A record has 128 bytes and no header.", byte 0 is b, "Byte 127 is the newline", and no text byte (1 to 126) is of class 0
 pub record Framed (b : ℕ) (s : List ℕ) : Type 0 where

@@ -1,46 +1,41 @@
 // The frame of a record. Document 01, "A record" and rows 2 and 3 of the refusals.
 ghost use Rattle.std.specs.Prelude.{◌≡◌};
-ghost use Rattle.frame.specs.Record.{kind_by, frame_of};
+ghost use Rattle.frame.specs.Record.{kind_by, frame_of, answered};
 
 use crate::texts::text;
+use common::Refusal;
 use common::sizes::RECORD_SIZE;
 use lexer::all_classed;
 
-// A line, an event (document 01: act), or why the bytes are neither: not 128 of them (refusal 2), or refusal 3.
-#[derive(Clone, Copy)]
-pub enum Frame {
+// A record is a line or an event (document 01: act).
+#[derive(Clone, Copy, Debug, PartialEq, Eq)]
+pub enum RecordKind {
     Line,
     Event,
-    WrongLength,
-    Malformed,
 }
 
 // By byte 0 of a record: `L` is a line and `E` an event.
-fn kind(b: u8) -> Frame
-    ensures { result ≡ kind_by b }
+#[tactic(auto, unfolding(crate::specs::Record::kind_by))]
+fn kind(byte: u8) -> Result<RecordKind, Refusal>
+    ensures { result ≡ answered (kind_by byte) }
 {
-    if b == b'L' {
-        return Frame::Line;
+    match byte {
+        b'L' => Ok(RecordKind::Line),
+        b'E' => Ok(RecordKind::Event),
+        _ => Err(Refusal::Malformed),
     }
-    if b == b'E' {
-        return Frame::Event;
-    }
-    Frame::Malformed
 }
 
-// The frame of any bytes.
-pub fn framed(bytes: &[u8]) -> Frame
-    ensures { result ≡ frame_of bytes.now }
+// The frame of any bytes: which kind of record they are, or why they are none.
+#[tactic(auto, unfolding(crate::specs::Record::frame_of))]
+pub fn framed(bytes: &[u8]) -> Result<RecordKind, Refusal>
+    ensures { result ≡ answered (frame_of bytes.now) }
 {
     if bytes.len() != RECORD_SIZE {
-        return Frame::WrongLength;
+        return Err(Refusal::RecordLength);
     }
-    if bytes[127] != b'\n' {
-        return Frame::Malformed;
+    if bytes[127] != b'\n' || !all_classed(text(bytes)) {
+        return Err(Refusal::Malformed);
     }
-    let whole = text(bytes);
-    if all_classed(whole) {
-        return kind(bytes[0]);
-    }
-    Frame::Malformed
+    kind(bytes[0])
 }

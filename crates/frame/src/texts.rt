@@ -3,15 +3,12 @@ ghost use Rattle.std.specs.Prelude.{◌≡◌};
 ghost use Rattle.frame.specs.Text.{text_of};
 
 // The text of a record, bytes 1 to 126, as a part of it from its middle; where there are fewer bytes, those that there are.
+#[tactic(auto, using(crate::proofs::TextLaws::text_cut), unfolding(crate::specs::Text::text_of))]
 pub fn text(bytes: &[u8]) -> &[u8]
     ensures { result.now ≡ text_of bytes.now }
 {
-    let n = bytes.len();
-    if n == 0 {
+    let Some((_, after)) = bytes.split_first() else {
         return bytes;
-    }
-    if n < 127 {
-        return &bytes[1..];
-    }
-    &bytes[1..127]
+    };
+    &after[..after.len().min(126)]
 }
