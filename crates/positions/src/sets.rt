@@ -6,7 +6,7 @@ ghost use Rattle.positions.specs.Sets.{has_at, bit_of, only_if, shares};
 pub fn has(m: u64, k: usize) -> bool
     ensures { result ≡ has_at m k }
 {
-    if k < 64 { (m >> k) % 2 == 1 } else { false }
+    k < 64 && (m >> k) % 2 == 1
 }
 
 // The set of k alone; empty where k has no bit.

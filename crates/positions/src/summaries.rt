@@ -3,11 +3,10 @@ ghost use Rattle.std.specs.Prelude.{◌≡◌};
 ghost use Rattle.positions.specs.Summaries.{after, pat_summary, empty_summary, seq_summary, alt_summary, star_summary, step_of, ends_of};
 
 use crate::sets::{has, only_if, single};
-use common::{both, either};
 
 // What the pass finds of a part of a past: the number of the pattern after it; whether it allows the empty list; whether a position held may
 // end it; the patterns that may begin it and that the event meets; those that the event leads to from a position held; those that may end it.
-#[derive(Clone, Copy)]
+#[derive(Clone, Copy, Debug, PartialEq, Eq)]
 pub struct Summary {
     pub next: usize,
     pub nullable: bool,
@@ -24,110 +23,87 @@ fn following(k: usize) -> usize
     if k < 65 { k + 1 } else { k }
 }
 
-// `()`, before the pattern numbered k.
-pub fn nothing(k: usize) -> Summary
-    ensures { result ≡ empty_summary k }
-{
-    Summary {
-        next: k,
-        nullable: true,
-        ending: false,
-        first: 0,
-        moved: 0,
-        last: 0,
+impl Summary {
+    // `()`, before the pattern numbered k.
+    pub fn nothing(k: usize) -> Self
+        ensures { result ≡ empty_summary k }
+    {
+        Self {
+            next: k,
+            nullable: true,
+            ending: false,
+            first: 0,
+            moved: 0,
+            last: 0,
+        }
     }
-}
 
-// The pattern numbered k, at the positions held; `met` says whether the event meets it.
-pub fn one(positions: u64, met: bool, k: usize) -> Summary
-    ensures { result ≡ pat_summary positions met k }
-{
-    let next = following(k);
-    let ending = has(positions, k);
-    let unit = single(k);
-    let first = only_if(met, unit);
-    Summary {
-        next: next,
-        nullable: false,
-        ending: ending,
-        first: first,
-        moved: 0,
-        last: unit,
+    // The pattern numbered k, at the positions held; `met` says whether the event meets it.
+    pub fn one(positions: u64, met: bool, k: usize) -> Self
+        ensures { result ≡ pat_summary positions met k }
+    {
+        let unit = single(k);
+        Self {
+            next: following(k),
+            nullable: false,
+            ending: has(positions, k),
+            first: only_if(met, unit),
+            moved: 0,
+            last: unit,
+        }
     }
-}
 
-// Side by side.
-pub fn in_order(p: Summary, q: Summary) -> Summary
-    ensures { result ≡ seq_summary p q }
-{
-    let nullable = both(p.nullable, q.nullable);
-    let kept = both(q.nullable, p.ending);
-    let ending = either(q.ending, kept);
-    let more = only_if(p.nullable, q.first);
-    let entered = only_if(p.ending, q.first);
-    let left = only_if(q.nullable, p.last);
-    let first = p.first | more;
-    let inner = q.moved | entered;
-    let moved = p.moved | inner;
-    let last = q.last | left;
-    Summary {
-        next: q.next,
-        nullable: nullable,
-        ending: ending,
-        first: first,
-        moved: moved,
-        last: last,
+    // Side by side.
+    pub fn in_order(self, second: Self) -> Self
+        ensures { result ≡ seq_summary self second }
+    {
+        let entered = second.moved | only_if(self.ending, second.first);
+        Self {
+            next: second.next,
+            nullable: self.nullable && second.nullable,
+            ending: second.ending || second.nullable && self.ending,
+            first: self.first | only_if(self.nullable, second.first),
+            moved: self.moved | entered,
+            last: second.last | only_if(second.nullable, self.last),
+        }
     }
-}
 
-// Either.
-pub fn one_of(p: Summary, q: Summary) -> Summary
-    ensures { result ≡ alt_summary p q }
-{
-    let nullable = either(p.nullable, q.nullable);
-    let ending = either(p.ending, q.ending);
-    let first = p.first | q.first;
-    let moved = p.moved | q.moved;
-    let last = p.last | q.last;
-    Summary {
-        next: q.next,
-        nullable: nullable,
-        ending: ending,
-        first: first,
-        moved: moved,
-        last: last,
+    // Either.
+    pub fn one_of(self, other: Self) -> Self
+        ensures { result ≡ alt_summary self other }
+    {
+        Self {
+            next: other.next,
+            nullable: self.nullable || other.nullable,
+            ending: self.ending || other.ending,
+            first: self.first | other.first,
+            moved: self.moved | other.moved,
+            last: self.last | other.last,
+        }
     }
-}
 
-// A star.
-pub fn repeated(p: Summary) -> Summary
-    ensures { result ≡ star_summary p }
-{
-    let again = only_if(p.ending, p.first);
-    let moved = p.moved | again;
-    Summary {
-        next: p.next,
-        nullable: true,
-        ending: p.ending,
-        first: p.first,
-        moved: moved,
-        last: p.last,
+    // A star.
+    pub fn repeated(self) -> Self
+        ensures { result ≡ star_summary self }
+    {
+        Self {
+            nullable: true,
+            moved: self.moved | only_if(self.ending, self.first),
+            ..self
+        }
     }
-}
 
-// The positions after the event, from those before it and the summary of the whole past. Position 0 is not among them.
-pub fn moved_on(positions: u64, s: Summary) -> u64
-    ensures { result ≡ step_of positions s }
-{
-    let zero = has(positions, 0);
-    let begun = only_if(zero, s.first);
-    s.moved | begun
-}
+    // The positions after the event, from those before it, where this is the summary of the whole past. Position 0 is not among them.
+    pub fn moved_on(self, positions: u64) -> u64
+        ensures { result ≡ step_of positions self }
+    {
+        self.moved | only_if(has(positions, 0), self.first)
+    }
 
-// The positions at which the past may end, 0 where it allows the empty list.
-pub fn ends(s: Summary) -> u64
-    ensures { result ≡ ends_of s }
-{
-    let zero = only_if(s.nullable, 1);
-    s.last | zero
+    // The positions at which the past may end, 0 where it allows the empty list.
+    pub fn ends(self) -> u64
+        ensures { result ≡ ends_of self }
+    {
+        self.last | only_if(self.nullable, 1)
+    }
 }

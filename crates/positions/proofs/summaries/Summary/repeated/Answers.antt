@@ -1,5 +1,5 @@
 use Rattle.positions.specs.Summaries.{star_summary}
-use Rattle.positions.proofs.summaries.repeated.Goals as goal
+use Rattle.positions.proofs.summaries.Summary.repeated.Goals as goal
 
 pub returns : goal.returns
 unfolding star_summary

@@ -1,5 +1,5 @@
 use Rattle.positions.specs.Summaries.{pat_summary}
-use Rattle.positions.proofs.summaries.one.Goals as goal
+use Rattle.positions.proofs.summaries.Summary.one.Goals as goal
 
 pub returns : goal.returns
 unfolding pat_summary

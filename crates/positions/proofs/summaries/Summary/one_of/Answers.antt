@@ -1,0 +1,7 @@
+use Rattle.positions.specs.Summaries.{alt_summary}
+use borrow.Author.Rules.{rules}
+use Rattle.positions.proofs.summaries.Summary.one_of.Goals as goal
+
+pub returns : goal.returns
+unfolding alt_summary
+returns c = search rules

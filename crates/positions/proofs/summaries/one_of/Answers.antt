@@ -1,6 +1,0 @@
-use Rattle.positions.specs.Summaries.{alt_summary}
-use Rattle.positions.proofs.summaries.one_of.Goals as goal
-
-pub returns : goal.returns
-unfolding alt_summary
-returns c = cc
