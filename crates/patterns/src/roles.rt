@@ -8,11 +8,9 @@ pub fn below(parents: &[u8], r: u8, p: u8) -> bool
 {
     let mut at = r;
     while at != p {
-        let i = at as usize;
-        if i >= parents.len() {
+        let Some(&up) = parents.get(usize::from(at)) else {
             return false;
-        }
-        let up = parents[i];
+        };
         if up >= at {
             return false;
         }

@@ -1,24 +1,25 @@
 -- `items` meets its contract: a law of ItemLaws for each way out. What falls is the code left.
 -- Assumes nothing.
+use borrow.Author.Rules.{rules}
 use Rattle.patterns.proofs.ItemLaws.{no_items, closed, starred, short, unders, sames}
 use Rattle.patterns.proofs.judge.+items.Goals as goal
 
-pub returns-then-at-code : goal.returns-then-at-code
-returns-then-at-code t c = no_items _ _ _ _ _ _ c.if-at-code.true
+pub returns-in-None : goal.returns-in-None
+returns-in-None t c = no_items _ _ _ _ _ _ (search rules)
 
-pub returns-then-b-eq62 : goal.returns-then-b-eq62
-returns-then-b-eq62 t c = closed _ _ _ _ _ c.if-b-eq62.true
+pub returns-in-Some-eq62 : goal.returns-in-Some-eq62
+returns-in-Some-eq62 t c = closed _ _ _ _ _ (search rules)
 
-pub returns-then-b-eq42 : goal.returns-then-b-eq42
-returns-then-b-eq42 t c = starred _ _ _ _ _ c.if-b-eq42.true
+pub returns-in-Some-eq42 : goal.returns-in-Some-eq42
+returns-in-Some-eq42 t c = starred _ _ _ _ _ (search rules)
 
-pub returns-then-name-code : goal.returns-then-name-code
-returns-then-name-code t c = short _ _ _ _ _ c.if-b-eq43.true c.if-name-code.true
+pub returns-in_default : goal.returns-in_default
+returns-in_default t c = short _ _ _ _ _ (search rules) (search rules)
 
-pub returns-then-b-eq43 : goal.returns-then-b-eq43
-returns-then-b-eq43 t c =
-    rw c.joined.ensures (unders _ _ _ _ _ c.if-b-eq43.true _ c.after-next.ensures _ c.items-r.ensures _ c.role_at-ok.ensures)
+pub returns-in-Some-get : goal.returns-in-Some-get
+returns-in-Some-get t c =
+    rw c.joined.ensures (unders _ _ _ _ _ (search rules) _ c.after-next.ensures _ c.items.ensures _ (search rules))
 
-pub returns : goal.returns
-returns t c =
-    rw c.joined-2.ensures (sames _ _ _ _ _ c.if-b-eq62.false c.if-b-eq42.false c.if-b-eq43.false _ c.after-next.ensures _ c.items-r-2.ensures _ c.role_at-ok-2.ensures)
+pub returns-in-Some : goal.returns-in-Some
+returns-in-Some t c =
+    rw c.joined-in-Some.ensures (sames _ _ _ _ _ (search rules) (search rules) (search rules) _ c.after-next.ensures _ c.items-in-Some.ensures _ (search rules))

@@ -1,9 +1,0 @@
--- `or_else` meets its contract.
--- Assumes nothing.
-use mathlib.Core.Path.{ap}
-use mathlib.Core.Bool.{Bool}
-use Rattle.patterns.specs.declared.judge.Judged.{Judged}
-use Rattle.patterns.proofs.judge.or_else.Goals as goal
-
-pub returns : goal.returns
-returns c = ap {B = Judged} (λ (b : Bool). record { end = c.args.r.end; ok = b }) c.either-any.ensures
