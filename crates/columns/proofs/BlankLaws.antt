@@ -3,54 +3,35 @@
 use mathlib.Core.Path.{◌≡◌, refl, sym, ap, ◌∙◌}
 use mathlib.Core.Bool.{Bool, true, false}
 use mathlib.Core.List.{List, [], ◌∷◌, ◌++◌}
-use Prim.Native.Nat.{ℕ, ◌+◌, ◌-◌, ◌<◌, ◌≤◌}
+use Prim.Native.Nat.{ℕ, ◌+◌, ◌-◌, ◌<◌, ◌≤◌, min}
+use borrow.Rule.Slice.PartMut.{put_mid}
 use native.Mathlib.Omega.{arith}
 use lib.Dec.{leb}
-use lib.ListN.{length, set, length-append, length-replicate, replicate-append-replicate}
+use lib.ListN.{length, length-append, length-replicate}
 use lib.Seq.{take-append-le}
+use Rattle.std.proofs.lemmas.List.{take_min}
 use borrow.Author.Tests.{leb-true, leb-false}
 use Rattle.columns.specs.Texts.{spaces, padded, opening_of, front_of}
 use Rattle.columns.specs.Writing.{fitting, Writes}
 use Rattle.columns.proofs.PaddedLaws.{take-spaces, padded-short, padded_cut, padded-after, padded-more}
-use Rattle.columns.proofs.WriteLaws.{writes_none, writes_then, writes_room, writes_same, writes_put, writes_next, writes_length, writes_end}
+use Rattle.columns.proofs.WriteLaws.{writes_empty, writes_part, writes_then, writes_room, writes_same, writes_next, writes_end}
 
--- the columns from `at` up to i are blank
-pub record Blank (at to : ℕ) (lent now : List ℕ) (i : ℕ) : Type 0 where
-  pub from : at ≤ i
-  pub most : i ≤ at + (to - at)
-  pub written : Writes at (spaces (i - at)) lent now i
+-- the spaces that fit
+fitting_spaces : (at m k : ℕ) (lent : List ℕ) → k ≡ min (length lent - at) m → spaces k ≡ fitting at (spaces m) lent
+fitting_spaces at m k lent e =
+    let q : min (length lent - at) (length (spaces m)) ≡ k = omega (arith, length-replicate {A = ℕ} m 32) in
+    sym (sym (take_min (length lent - at) (spaces m)) ∙ rw q (take-spaces k m (omega arith)))
 
-pub blank_start : (at to : ℕ) (lent : List ℕ) → Blank at to lent lent at
-blank_start at to lent =
-    let z : at - at ≡ 0 = omega arith in
-    record { from = omega arith; most = omega arith; written = rw z (writes_none at lent) }
+-- spaces up to e, the lesser of a column and the end of the buffer
+module _ (at to e : ℕ) (lent : List ℕ) (h : e ≡ min to (length lent)) where
+  pub writes_spaces : (part : List ℕ) → at < e → part ≡ spaces (e - at) → Writes at (spaces (to - at)) lent (put_mid at (e - at) lent part) e
+  writes_spaces part l f =
+      let n : at + (e - at) ≡ e = omega arith in
+      rw n at (writes_part at (e - at) (spaces (to - at)) lent part (f ∙ fitting_spaces at (to - at) (e - at) lent (omega arith)) (sym (ap length f ∙ length-replicate {A = ℕ} (e - at) 32)))
 
-module _ {at to : ℕ} {lent now : List ℕ} {i : ℕ} (b : Blank at to lent now i) where
-  pub blank_more : i < to → i < length now → Blank at to lent (set now i 32) (i + 1)
-  blank_more h k =
-      let f = b.from in
-      let n : i - at + 1 ≡ i + 1 - at = omega arith in
-      let e : spaces (i - at) ++ (32 ∷ []) ≡ spaces (i + 1 - at) = replicate-append-replicate (i - at) 1 32 ∙ ap spaces n in
-      record {
-        from = omega arith;
-        most = omega arith;
-        written = writes_same e (writes_then b.written (writes_put i 32 now k));
-      }
-
-  pub blank_end : to ≤ i → Writes at (spaces (to - at)) lent now i
-  blank_end h =
-      let f = b.from in
-      let m = b.most in
-      let n : i - at ≡ to - at = omega arith in
-      writes_same (ap spaces n) b.written
-
-  -- no room
-  pub blank_full : i < to → length now ≤ i → Writes at (spaces (to - at)) lent now i
-  blank_full h k =
-      let f = b.from in
-      let n = writes_length b.written in
-      let e : fitting at (spaces (i - at)) lent ≡ fitting at (spaces (to - at)) lent = take-spaces (length lent - at) (i - at) (omega arith) ∙ sym (take-spaces (length lent - at) (to - at) (omega arith)) in
-      writes_room e b.written
+  -- and none where that lies before the place
+  pub writes_no_spaces : e ≤ at → Writes at (spaces (to - at)) lent lent at
+  writes_no_spaces l = writes_empty at (spaces (to - at)) lent (sym (fitting_spaces at (to - at) 0 lent (omega arith)))
 
 -- a text and spaces after it up to a column
 pub writes_blank : {at p q : ℕ} {w a b c : List ℕ} (to : ℕ) → Writes at w a b p → Writes p (spaces (to - p)) b c q → Writes at (w ++ spaces (to - at - length w)) a c q

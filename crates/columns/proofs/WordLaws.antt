@@ -7,7 +7,7 @@ use Prim.Native.Nat.{ℕ, suc, ◌+◌, ◌-◌, ◌*◌, ◌<◌, ◌≤◌, ze
 use native.Mathlib.Numerals.{add-one}
 use native.Mathlib.Omega.{arith}
 use lib.ListN.{length, take, drop, get_or, length-append}
-use lib.Seq.{take-suc, drop-cons, take_all}
+use lib.Seq.{take-suc, drop-cons}
 use borrow.Author.Tests.{eq-eqb, ne_eqb}
 use Rattle.common.specs.All.{All}
 use Rattle.common.proofs.AllLaws.{all_of, all_mapped}
@@ -83,11 +83,9 @@ unfolding spaced before
 spaced-before n [] = sym (append-nil (unpacked n))
 spaced-before n (m ∷ ns) = ap (λ (v : List ℕ). unpacked n ++ (32 ∷ v)) (spaced-before m ns)
 
-pub writes_spaced : {at p q : ℕ} {a b c : List ℕ} (ns : List ℕ) → (length ns ≡ 0 → ⊥)
-    → Writes at (unpacked (get_or ns 0 0)) a b p → Writes p (before (map unpacked (take (length ns - 1) (drop 1 ns)))) b c q → Writes at (spaced (map unpacked ns)) a c q
-writes_spaced [] h f g = absurd (h refl)
-writes_spaced (n ∷ ns) h f g =
-    writes_same (ap (λ (v : List ℕ). unpacked n ++ before (map unpacked v)) (take_all (suc (length ns) - 1) ns (omega arith)) ∙ sym (spaced-before n ns)) (writes_then f g)
+pub writes_spaced : {at p q : ℕ} {a b c : List ℕ} (n : ℕ) (ns : List ℕ)
+    → Writes at (unpacked n) a b p → Writes p (before (map unpacked ns)) b c q → Writes at (spaced (map unpacked (n ∷ ns))) a c q
+writes_spaced n ns f g = writes_same (sym (spaced-before n ns)) (writes_then f g)
 
 pub spaced-none : (ns : List ℕ) (at : ℕ) (lent : List ℕ) → length ns ≡ 0 → Writes at (spaced (map unpacked ns)) lent lent at
 unfolding spaced

@@ -3,13 +3,16 @@
 use mathlib.Core.Path.{◌≡◌, refl, sym, ap, ◌∙◌}
 use mathlib.Core.Bool.{Bool, true, false}
 use mathlib.Core.List.{List, [], ◌∷◌, ◌++◌, append_assoc, append-nil}
-use Prim.Native.Nat.{ℕ, zero, suc, ◌+◌, ◌-◌, ◌<◌, ◌≤◌}
+use Prim.Native.Nat.{ℕ, zero, suc, ◌+◌, ◌-◌, ◌<◌, ◌≤◌, min}
 use native.Mathlib.Numerals.{add-one}
 use native.Mathlib.Omega.{arith}
 use lib.Dec.{ltb}
-use lib.ListN.{length, take, drop, get_or, set, length-append, length-take, length-drop, take-append-drop, drop_of_length-le}
-use lib.Seq.{take-nil, take_all, take-suc, take_at, take-take, take-append-le, drop_at, drop-drop, length-take-le, append_snoc, set_split}
+use lib.ListN.{length, take, drop, set, length-append, length-take, length-drop, take-append-drop, drop_of_length-le}
+use lib.Seq.{take-nil, take_all, take_at, take-take, take-append-le, drop_at, drop-drop, length-take-le, append_snoc, set_split}
 use borrow.Author.Tests.{ltb-true, ltb-false}
+use borrow.Rule.Slice.PartMut.{put_mid}
+use Rattle.std.proofs.lemmas.List.{take_min}
+use Rattle.std.proofs.lemmas.Slice.{put_mid-paste}
 use Rattle.columns.specs.Writing.{fitting, laid, Writes}
 
 -- the first k of two texts: those of the first, and as many of the second as are left
@@ -92,17 +95,38 @@ module _ (at : ℕ) (w v lent : List ℕ) where
       go true t = let h = ltb-true at (length lent) t in joined p e (omega arith)
       go false t = beside p e (ltb-false at (length lent) t)
 
+-- a text of which nothing fits
+pub writes_empty : (at : ℕ) (w lent : List ℕ) → fitting at w lent ≡ [] → Writes at w lent lent at
+writes_empty at w lent n = record { bytes = sym (laid_none at w lent n); next = omega (arith, ap length n) }
+
 -- nothing written
 pub writes_none : (at : ℕ) (lent : List ℕ) → Writes at [] lent lent at
-writes_none at lent =
-    let n = take-nil (length lent - at) in
-    record { bytes = sym (laid_none at [] lent n); next = omega (arith, ap length n) }
+writes_none at lent = writes_empty at [] lent (take-nil (length lent - at))
 
 -- with no room nothing is written
 pub writes_full : (at : ℕ) (w lent : List ℕ) → length lent ≤ at → Writes at w lent lent at
-writes_full at w lent h =
-    let n = no_room at w lent h in
-    record { bytes = sym (laid_none at w lent n); next = omega (arith, ap length n) }
+writes_full at w lent h = writes_empty at w lent (no_room at w lent h)
+
+-- a part of the buffer written over with what fits of a text
+pub writes_part : (at k : ℕ) (w lent part : List ℕ) → part ≡ fitting at w lent → k ≡ length part → Writes at w lent (put_mid at k lent part) (at + k)
+unfolding laid
+writes_part at k w lent part e n =
+    record {
+      bytes = put_mid-paste at k lent part part k refl refl n ∙ rw (take_all k part (omega arith), n, e) refl;
+      next = ap (λ (i : ℕ). at + i) (n ∙ ap length e);
+    }
+
+-- the first k bytes of a text, k being as many as fit and as there are
+fitting_part : (at k : ℕ) (w lent : List ℕ) → k ≡ min (length lent - at) (length w) → take k w ≡ fitting at w lent
+fitting_part at k w lent e = ap (λ (i : ℕ). take i w) e ∙ take_min (length lent - at) w
+
+-- a text copied as far as there is room
+pub writes_copied : (at k : ℕ) (w lent part : List ℕ) → k ≡ min (length lent - at) (length w) → part ≡ take k w → Writes at w lent (put_mid at k lent part) (at + k)
+writes_copied at k w lent part n e =
+    writes_part at k w lent part (e ∙ fitting_part at k w lent n) (sym (ap length e ∙ length-take-le k w (omega arith)))
+
+pub writes_uncopied : (at : ℕ) (w lent : List ℕ) → min (length lent - at) (length w) ≡ 0 → Writes at w lent lent at
+writes_uncopied at w lent n = writes_empty at w lent (sym (fitting_part at 0 w lent (sym n)))
 
 -- one text after another
 pub writes_then : {at p q : ℕ} {w v a b c : List ℕ} → Writes at w a b p → Writes p v b c q → Writes at (w ++ v) a c q
@@ -148,11 +172,6 @@ unfolding laid
 writes_put at b lent h =
     let e : fitting at (b ∷ []) lent ≡ b ∷ [] = take_all (length lent - at) (b ∷ []) (omega arith) in
     record { bytes = rw (e, add-one) (set_split lent at b h ∙ sym (append_snoc (take at lent) b (drop (suc at) lent))); next = rw e refl }
-
--- one byte more of a text
-pub writes_byte : {at p q : ℕ} {a b c : List ℕ} (w : List ℕ) (i : ℕ) → i < length w → Writes at (take i w) a b p → Writes p (get_or w i 0 ∷ []) b c q
-    → Writes at (take (i + 1) w) a c q
-writes_byte w i h f g = writes_same (rw add-one (sym (take-suc w i 0 h))) (writes_then f g)
 
 module _ {r : ℕ} {w lent left : List ℕ} (f : Writes 0 w lent left r) where
   -- written from the start: the first columns are the text's

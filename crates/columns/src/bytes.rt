@@ -26,13 +26,10 @@ pub fn two_digits(out: &mut [u8], at: usize, n: u8) -> usize
 pub fn blank(out: &mut [u8], at: usize, to: usize) -> usize
     ensures { Writes at (spaces (to - at)) out.old out.new result }
 {
-    let mut i = at;
-    while i < to {
-        if out.len() <= i {
-            return i;
-        }
-        out[i] = b' ';
-        i += 1;
+    let end = to.min(out.len());
+    if end <= at {
+        return at;
     }
-    i
+    out[at..end].fill(b' ');
+    end
 }

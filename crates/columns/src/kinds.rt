@@ -3,7 +3,7 @@ ghost use Rattle.std.specs.Prelude.{◌≡◌};
 ghost use Rattle.columns.specs.Kinds.{letter_of};
 
 // "`D` declared, `C` committed, `H` held, `U` unfit, `T` too long, `R` refused"
-#[derive(Clone, Copy)]
+#[derive(Clone, Copy, Debug, PartialEq, Eq)]
 pub enum ReplyKind {
     Declared,
     Committed,
@@ -13,16 +13,18 @@ pub enum ReplyKind {
     Refused,
 }
 
-// Column 0 of a reply.
-pub fn letter(kind: ReplyKind) -> u8
-    ensures { result ≡ letter_of kind }
-{
-    match kind {
-        ReplyKind::Declared => b'D',
-        ReplyKind::Committed => b'C',
-        ReplyKind::Held => b'H',
-        ReplyKind::Unfit => b'U',
-        ReplyKind::TooLong => b'T',
-        ReplyKind::Refused => b'R',
+impl ReplyKind {
+    // Column 0 of a reply.
+    pub fn letter(self) -> u8
+        ensures { result ≡ letter_of self }
+    {
+        match self {
+            ReplyKind::Declared => b'D',
+            ReplyKind::Committed => b'C',
+            ReplyKind::Held => b'H',
+            ReplyKind::Unfit => b'U',
+            ReplyKind::TooLong => b'T',
+            ReplyKind::Refused => b'R',
+        }
     }
 }

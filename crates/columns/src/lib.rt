@@ -2,6 +2,7 @@
 //
 // A writer takes the place where it begins and hands back the place after what it wrote. Every function takes any place and a buffer of any length:
 // what there is no room for is left out, and nothing else of the buffer changes.
+// Kept: buffer and place are two parameters. A writer that held both would borrow the buffer, and each call would owe besides that it is still the same loan.
 #![tactic(auto)]
 
 pub mod bytes;
@@ -11,5 +12,5 @@ pub mod texts;
 
 pub use bytes::{blank, put, two_digits};
 pub use fronts::front;
-pub use kinds::{ReplyKind, letter};
+pub use kinds::ReplyKind;
 pub use texts::{text, word, words};

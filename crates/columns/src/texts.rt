@@ -10,13 +10,12 @@ use crate::bytes::put;
 pub fn text(out: &mut [u8], at: usize, bytes: &[u8]) -> usize
     ensures { Writes at bytes.now out.old out.new result }
 {
-    let mut next = at;
-    let mut i: usize = 0;
-    while i < bytes.len() {
-        next = put(out, next, bytes[i]);
-        i += 1;
+    let count = out.len().saturating_sub(at).min(bytes.len());
+    if count == 0 {
+        return at;
     }
-    next
+    out[at..at + count].copy_from_slice(&bytes[..count]);
+    at + count
 }
 
 // A packed name without the spaces after it.
@@ -24,14 +23,12 @@ pub fn word(out: &mut [u8], at: usize, name: u64) -> usize
     ensures { Writes at (unpacked name) out.old out.new result }
 {
     let mut next = at;
-    let mut i: usize = 0;
-    while i < 8 {
+    for i in 0..8 {
         let b = names::column(name, i);
         if b == b' ' {
             return next;
         }
         next = put(out, next, b);
-        i += 1;
     }
     next
 }
@@ -41,11 +38,9 @@ fn more(out: &mut [u8], at: usize, names: &[u64]) -> usize
     ensures { Writes at (before (map unpacked names.now)) out.old out.new result }
 {
     let mut next = at;
-    let mut i: usize = 0;
-    while i < names.len() {
+    for name in names {
         let space = put(out, next, b' ');
-        next = word(out, space, names[i]);
-        i += 1;
+        next = word(out, space, *name);
     }
     next
 }
@@ -54,9 +49,9 @@ fn more(out: &mut [u8], at: usize, names: &[u64]) -> usize
 pub fn words(out: &mut [u8], at: usize, names: &[u64]) -> usize
     ensures { Writes at (spaced (map unpacked names.now)) out.old out.new result }
 {
-    if names.len() == 0 {
+    let Some((first, rest)) = names.split_first() else {
         return at;
-    }
-    let next = word(out, at, names[0]);
-    more(out, next, &names[1..])
+    };
+    let next = word(out, at, *first);
+    more(out, next, rest)
 }
