@@ -2,7 +2,7 @@
 ghost use Rattle.std.specs.Prelude.{[]};
 ghost use Rattle.reply.specs.Writing.{reply_of, Written};
 
-use columns::{ReplyKind, blank, front, letter, put, words};
+use columns::{ReplyKind, blank, front, put, words};
 use common::sizes::REPLY_SIZE;
 
 // Writes a reply where 50 bytes are lent for it, and says whether they are. The newline ends a text that is too long for its columns.
@@ -12,8 +12,7 @@ pub fn reply(out: &mut [u8], kind: ReplyKind, number: u8, name: u64, roles: &[u6
     if out.len() != REPLY_SIZE {
         return false;
     }
-    let first = letter(kind);
-    let text = front(out, first, number, name);
+    let text = front(out, kind.letter(), number, name);
     let end = words(out, text, roles);
     blank(out, end, 49);
     put(out, 49, b'\n');
@@ -24,6 +23,5 @@ pub fn reply(out: &mut [u8], kind: ReplyKind, number: u8, name: u64, roles: &[u6
 pub fn plain(out: &mut [u8], kind: ReplyKind, number: u8, name: u64) -> bool
     ensures { Written out.old (reply_of kind number name []) out.new result }
 {
-    let none: [u64; 0] = [];
-    reply(out, kind, number, name, &none)
+    reply(out, kind, number, name, &[])
 }
