@@ -2,23 +2,38 @@
 -- Assumes nothing.
 use mathlib.Core.Path.{◌≡◌, refl, sym, ap, ◌∙◌}
 use mathlib.Core.List.{List, ◌++◌}
-use Prim.Native.Nat.{ℕ, zero, suc, ◌+◌, ◌≤◌}
+use Prim.Native.Nat.{ℕ, zero, suc, ◌+◌, ◌<◌, ◌≤◌}
 use native.Mathlib.Omega.{arith}
-use lib.ListN.{length, get_or, drop, replicate}
-use Rattle.patterns.proofs.Here.{none, here, first}
+use lib.ListN.{length, get_or, drop, replicate, get_or-eq_default}
+use lib.Dec.{eqb, ltb}
+use mathlib.Core.Bool.{Bool, true, false, ◌&&◌}
+use borrow.Author.Tests.{ltb-true, ltb-false, eq-eqb, eqb-true}
+use Rattle.common.proofs.Bools.{and_left, and_right, and_both, true_not_false}
+use Rattle.patterns.proofs.Here.{here, first}
 use Rattle.positions.specs.Summaries.{star_summary}
 use Rattle.positions.specs.declared.summaries.Summary.{Summary}
-use Rattle.follow.specs.Walked.{again, AfterFactor, StarsRead}
+use Rattle.follow.specs.Walked.{stands_at, again, AfterFactor, StarsRead}
 use Rattle.follow.specs.declared.walk.Walk.{Walk}
 
-module _ (code : List ℕ) (w : Walk) where
-  pub stars_none : length code ≤ w.end → StarsRead code w w
-  stars_none l = record { onwards = omega arith; right = go }
-    where
-      go : (n : ℕ) (rest : List ℕ) → AfterFactor rest → drop w.end code ≡ replicate n 42 ++ rest → (w.summary ≡ again n w.summary) × (w.end ≡ w.end + n)
-      go zero rest a e = (refl, omega arith)
-      go (suc n) rest a e = absurd (none code w.end _ _ l e)
+-- what `stands` tells of the byte at a place
+module _ (code : List ℕ) (at b : ℕ) (r : Bool) (e : r ≡ stands_at code at b) where
+  pub stands_within : r ≡ true → at < length code
+  unfolding stands_at
+  stands_within h = ltb-true at (length code) (and_left _ _ (sym e ∙ h))
 
+  pub stands_byte : r ≡ true → get_or code at 0 ≡ b
+  unfolding stands_at
+  stands_byte h = eqb-true _ _ (and_right _ _ (sym e ∙ h))
+
+  pub stands_not : r ≡ false → 0 < b → get_or code at 0 ≡ b → ⊥
+  unfolding stands_at
+  stands_not h p q = go (ltb at (length code)) refl
+    where
+      go : (t : Bool) → ltb at (length code) ≡ t → ⊥
+      go true d = true_not_false r (e ∙ and_both d (eq-eqb _ _ q)) h
+      go false d = let z : get_or code at 0 ≡ 0 = get_or-eq_default code 0 (ltb-false at (length code) d) in omega arith
+
+module _ (code : List ℕ) (w : Walk) where
   pub stars_stop : (get_or code w.end 0 ≡ 42 → ⊥) → StarsRead code w w
   stars_stop b = record { onwards = omega arith; right = go }
     where

@@ -35,9 +35,6 @@ starred-summary m f zero r k = refl
 starred-summary m f (suc n) r k = starred-summary m f n (meaning.star r) k
 
 module _ (m : ℕ) (ps event code : List ℕ) (at k : ℕ) where
-  pub no_base : (s : Summary) → length code ≤ at → BaseRead m ps event code at k (record { end = at; summary = s })
-  no_base s l = record { onwards = omega arith; moves = λ h. absurd (omega arith); right = λ b rest a e. absurd (nowhere code at _ (longer (code_base b) rest (base_head b)) l e) }
-
   pub pattern_base : (get_or code at 0 ≡ 40 → ⊥) → (j : Judged) → PatternRead ps event code at j → (s : Summary) → s ≡ pat_summary m j.ok k → BaseRead m ps event code at k (record { end = j.end; summary = s })
   unfolding code_base base_meaning summary
   pattern_base n j ih s q = record { onwards = ih.onwards; moves = ih.moves; right = go }
@@ -48,15 +45,6 @@ module _ (m : ℕ) (ps event code : List ℕ) (at k : ℕ) where
       go (group p) rest a e = absurd (n (here code at _ _ e).byte)
 
   module _ (b : get_or code at 0 ≡ 40) where
-    pub short_base : (s : Summary) → length code ≤ at + 1 → BaseRead m ps event code at k (record { end = at + 1; summary = s })
-    unfolding code_base
-    short_base s l = record { onwards = omega arith; moves = λ h. omega arith; right = go }
-      where
-        go : (t : Base ℕ) (rest : List ℕ) → AfterBase rest → drop at code ≡ code_base t ++ rest → (s ≡ summary m (meets (order_in ps) event) (base_meaning t) k) × (at + 1 ≡ at + length (code_base t))
-        go (pattern p) rest a e = absurd (not_round code at p rest e b)
-        go nothing rest a e = absurd (none code (at + 1) _ _ l (here code at _ _ e).next)
-        go (group p) rest a e = absurd (nowhere code (at + 1) _ (longer _ rest (longer (code_past p) (41 ∷ []) (past_head p))) l (here code at _ _ e).next)
-
     pub empty_base : get_or code (at + 1) 0 ≡ 41 → (s : Summary) → s ≡ empty_summary k → BaseRead m ps event code at k (record { end = at + 1 + 1; summary = s })
     unfolding code_base base_meaning summary
     empty_base b' s q = record { onwards = omega arith; moves = λ h. omega arith; right = go }
@@ -115,14 +103,6 @@ module _ (m : ℕ) (ps event code : List ℕ) (at k : ℕ) where
         let d = it.right x _ (λ z. true_not_false _ (ap (λ (l : List ℕ). starts (get_or l 0 0)) h.is ∙ h.start) (ap starts z)) q in
         (d.0, d.1, beyond code at f.end (code_factor x) _ q d.1)
 
-    pub last-seq : length code ≤ f.end → SequenceRead m ps event code at k f
-    unfolding code_sequence sequence_meaning
-    last-seq l = record { onwards = it.onwards; moves = it.moves; right = go }
-      where
-        go : (s : Sequence ℕ) (rest : List ℕ) → AfterSequence rest → drop at code ≡ code_sequence s ++ rest → (f.summary ≡ summary m (meets (order_in ps) event) (sequence_meaning s) k) × (f.end ≡ at + length (code_sequence s))
-        go (single x) rest a e = it.right x rest a.0 e
-        go (beside x s) rest a e = absurd (nowhere code f.end _ (longer (code_sequence s) rest (sequence_head s)) l (at_more x s rest e).2)
-
     pub end-seq : starts (get_or code f.end 0) ≡ false → SequenceRead m ps event code at k f
     unfolding code_sequence sequence_meaning
     end-seq b = record { onwards = it.onwards; moves = it.moves; right = go }
@@ -155,14 +135,6 @@ module _ (m : ℕ) (ps event code : List ℕ) (at k : ℕ) where
         let q : drop at code ≡ code_sequence x ++ (43 ∷ (code_past p ++ rest)) = e ∙ append_assoc (code_sequence x) (43 ∷ code_past p) rest in
         let d = it.right x _ ((λ z. absurd (omega arith)), refl) q in
         (d.0, d.1, beyond code at s.end (code_sequence x) _ q d.1)
-
-    pub last-past : length code ≤ s.end → PastRead m ps event code at k s
-    unfolding code_past past_meaning
-    last-past l = record { onwards = it.onwards; moves = it.moves; right = go }
-      where
-        go : (p : Past ℕ) (rest : List ℕ) → AfterPast rest → drop at code ≡ code_past p ++ rest → (s.summary ≡ summary m (meets (order_in ps) event) (past_meaning p) k) × (s.end ≡ at + length (code_past p))
-        go (only x) rest a e = it.right x rest a.0 e
-        go (either x p) rest a e = absurd (none code s.end _ _ l (at_either x p rest e).2)
 
     pub end-past : (get_or code s.end 0 ≡ 43 → ⊥) → PastRead m ps event code at k s
     unfolding code_past past_meaning

@@ -1,7 +1,7 @@
 -- What the walk over a past's code promises, by trees: where the code from `at` on spells a past and what follows does not go on with it, the walk
 -- finds the summary of its meaning, and ends where its spelling ends. For any bytes it ends, and not before its start.
 -- Assumes nothing.
-use Rattle.std.specs.Prelude.{◌≡◌, Bool, false, List, [], ◌∷◌, ◌++◌, ℕ, zero, suc, ◌+◌, ◌≤◌, ◌<◌, length, get_or, drop, replicate}
+use Rattle.std.specs.Prelude.{◌≡◌, Bool, false, ◌&&◌, ltb, eqb, List, [], ◌∷◌, ◌++◌, ℕ, zero, suc, ◌+◌, ◌≤◌, ◌<◌, length, get_or, drop, replicate}
 use Rattle.lexer.specs.Class.{among}
 use Rattle.grammar.specs.Trees.{Pattern}
 use Rattle.code.specs.Trees.{code_past, code_sequence, code_factor, code_base}
@@ -12,6 +12,10 @@ use Rattle.positions.specs.Summaries.{summary, star_summary}
 use Rattle.positions.specs.declared.summaries.Summary.{Summary}
 use Rattle.follow.specs.Meaning.{past_meaning, sequence_meaning, factor_meaning, base_meaning}
 use Rattle.follow.specs.declared.walk.Walk.{Walk}
+
+-- that byte stands at a place of the code
+unfoldable pub stands_at : List ℕ → ℕ → ℕ → Bool
+stands_at code at b = ltb at (length code) && eqb (get_or code at 0) b
 
 -- a byte that begins a base: any < [ (
 abbrev pub starts : ℕ → Bool

@@ -1,6 +1,6 @@
 // One pass over a past's code for one event. The four levels call one another; what falls is the code left, and then the level.
-ghost use Rattle.std.specs.Prelude.{◌≡◌};
-ghost use Rattle.follow.specs.Walked.{starts, StarsRead, BaseRead, FactorRead, SequenceRead, PastRead};
+ghost use Rattle.std.specs.Prelude.{◌≡◌, get_or};
+ghost use Rattle.follow.specs.Walked.{stands_at, starts, StarsRead, BaseRead, FactorRead, SequenceRead, PastRead};
 
 use positions::{Summary, in_order, nothing, one, one_of, repeated};
 
@@ -11,141 +11,119 @@ pub struct Walk {
     pub summary: Summary,
 }
 
-// Whether a byte begins a base.
-fn starts(b: u8) -> bool
-    ensures { result ≡ starts b }
+// What a pass reads: a past's code, the positions held before the event, the event, and the parents of roles.
+#[derive(Clone, Copy)]
+pub struct Step<'a> {
+    pub code: &'a [u8],
+    pub positions: u64,
+    pub event: &'a [u8],
+    pub parents: &'a [u8],
+}
+
+// Whether that byte stands at a place of the code.
+#[tactic(auto, unfolding(crate::specs::Walked::stands_at))]
+fn stands(code: &[u8], at: usize, b: u8) -> bool
+    ensures { result ≡ stands_at code.now at b }
 {
-    if b == b'a' {
-        return true;
-    }
-    if b == b'<' {
-        return true;
-    }
-    if b == b'[' {
-        return true;
-    }
-    b == b'('
+    code.get(at) == Some(&b)
+}
+
+// Whether a base begins at a place of the code.
+fn starts(code: &[u8], at: usize) -> bool
+    ensures { result ≡ starts (get_or code.now at 0) }
+{
+    matches!(code.get(at), Some(b'a' | b'<' | b'[' | b'('))
 }
 
 // The stars after a base.
-fn stars(code: &[u8], w: Walk) -> Walk
-    ensures { StarsRead code.now w result }
+fn stars(code: &[u8], walk: Walk) -> Walk
+    ensures { StarsRead code.now walk result }
 {
-    let e = w.end;
-    if e >= code.len() {
-        return w;
+    if !stands(code, walk.end, b'*') {
+        return walk;
     }
-    if code[e] == b'*' {
-        let s = repeated(w.summary);
-        return stars(
-            code,
-            Walk {
-                end: e + 1,
-                summary: s,
-            },
-        );
-    }
-    w
+    let summary = repeated(walk.summary);
+    stars(
+        code,
+        Walk {
+            end: walk.end + 1,
+            summary,
+        },
+    )
 }
 
-// A base: a pattern, (), or a past in round brackets.
-#[cycle(base_factor_past_sequence)]
-fn base(code: &[u8], at: usize, k: usize, positions: u64, event: &[u8], parents: &[u8]) -> Walk
-    ensures { BaseRead positions parents.now event.now code.now at k result }
-{
-    if at >= code.len() {
-        let summary = nothing(k);
-        return Walk { end: at, summary };
-    }
-    if code[at] == b'(' {
-        let next = at + 1;
-        if next >= code.len() {
-            let summary = nothing(k);
-            return Walk { end: next, summary };
-        }
-        if code[next] == b')' {
-            let summary = nothing(k);
+impl Step<'_> {
+    // A base: a pattern, (), or a past in round brackets.
+    #[cycle(base_factor_past_sequence)]
+    fn base(self, at: usize, k: usize) -> Walk
+        ensures { BaseRead self.entry.positions self.entry.parents.now self.entry.event.now self.entry.code.now at k result }
+    {
+        if !stands(self.code, at, b'(') {
+            let judged = patterns::pattern(self.code, at, self.event, self.parents);
+            let summary = one(self.positions, judged.ok, k);
             return Walk {
-                end: next + 1,
+                end: judged.end,
                 summary,
             };
         }
-        let r = past(code, next, k, positions, event, parents);
-        let e = r.end;
-        if e >= code.len() {
-            return r;
+        let inside = at + 1;
+        if stands(self.code, inside, b')') {
+            let summary = nothing(k);
+            return Walk {
+                end: inside + 1,
+                summary,
+            };
         }
-        let summary = r.summary;
-        return Walk {
-            end: e + 1,
+        let past = self.past(inside, k);
+        if past.end >= self.code.len() {
+            return past;
+        }
+        Walk {
+            end: past.end + 1,
+            ..past
+        }
+    }
+
+    // A factor: a base and its stars.
+    #[cycle(base_factor_past_sequence)]
+    fn factor(self, at: usize, k: usize) -> Walk
+        ensures { FactorRead self.entry.positions self.entry.parents.now self.entry.event.now self.entry.code.now at k result }
+    {
+        let base = self.base(at, k);
+        stars(self.code, base)
+    }
+
+    // A sequence: factors side by side.
+    #[cycle(base_factor_past_sequence)]
+    fn sequence(self, at: usize, k: usize) -> Walk
+        ensures { SequenceRead self.entry.positions self.entry.parents.now self.entry.event.now self.entry.code.now at k result }
+    {
+        let factor = self.factor(at, k);
+        if !starts(self.code, factor.end) {
+            return factor;
+        }
+        let rest = self.sequence(factor.end, factor.summary.next);
+        let summary = in_order(factor.summary, rest.summary);
+        Walk {
+            end: rest.end,
             summary,
-        };
+        }
     }
-    let j = patterns::pattern(code, at, event, parents);
-    let summary = one(positions, j.ok, k);
-    Walk {
-        end: j.end,
-        summary,
-    }
-}
 
-// A factor: a base and its stars.
-#[cycle(base_factor_past_sequence)]
-fn factor(code: &[u8], at: usize, k: usize, positions: u64, event: &[u8], parents: &[u8]) -> Walk
-    ensures { FactorRead positions parents.now event.now code.now at k result }
-{
-    let b = base(code, at, k, positions, event, parents);
-    let e = b.end;
-    if e >= code.len() {
-        return b;
+    // A past from at on, its patterns numbered from k on.
+    #[cycle(base_factor_past_sequence)]
+    pub fn past(self, at: usize, k: usize) -> Walk
+        ensures { PastRead self.entry.positions self.entry.parents.now self.entry.event.now self.entry.code.now at k result }
+    {
+        let sequence = self.sequence(at, k);
+        if !stands(self.code, sequence.end, b'+') {
+            return sequence;
+        }
+        let other = self.past(sequence.end + 1, sequence.summary.next);
+        let summary = one_of(sequence.summary, other.summary);
+        Walk {
+            end: other.end,
+            summary,
+        }
     }
-    if code[e] == b'*' {
-        return stars(code, b);
-    }
-    b
-}
-
-// A sequence: factors side by side.
-#[cycle(base_factor_past_sequence)]
-fn sequence(code: &[u8], at: usize, k: usize, positions: u64, event: &[u8], parents: &[u8]) -> Walk
-    ensures { SequenceRead positions parents.now event.now code.now at k result }
-{
-    let f = factor(code, at, k, positions, event, parents);
-    let e = f.end;
-    if e >= code.len() {
-        return f;
-    }
-    let more = starts(code[e]);
-    if more {
-        let n = f.summary.next;
-        let s = sequence(code, e, n, positions, event, parents);
-        let summary = in_order(f.summary, s.summary);
-        return Walk {
-            end: s.end,
-            summary: summary,
-        };
-    }
-    f
-}
-
-// A past from at on, its patterns numbered from k on, for one event and the positions held before it.
-#[cycle(base_factor_past_sequence)]
-pub fn past(code: &[u8], at: usize, k: usize, positions: u64, event: &[u8], parents: &[u8]) -> Walk
-    ensures { PastRead positions parents.now event.now code.now at k result }
-{
-    let s = sequence(code, at, k, positions, event, parents);
-    let e = s.end;
-    if e >= code.len() {
-        return s;
-    }
-    if code[e] == b'+' {
-        let n = s.summary.next;
-        let p = past(code, e + 1, n, positions, event, parents);
-        let summary = one_of(s.summary, p.summary);
-        return Walk {
-            end: p.end,
-            summary: summary,
-        };
-    }
-    s
 }

@@ -7,4 +7,4 @@ pub returns-then-positions-eq0 : goal.returns-then-positions-eq0
 returns-then-positions-eq0 c = step_idle _ _ _ _ c.if-positions-eq0.true
 
 pub returns : goal.returns
-returns c = step_right _ _ _ _ _ _ _ c.if-positions-eq0.false c.code_of.ensures c.past-w.ensures c.moved_on.ensures
+returns c = step_right _ _ _ _ _ _ _ c.if-positions-eq0.false c.code_of.ensures c.past-walk.ensures c.moved_on.ensures

@@ -1,6 +1,5 @@
-use Prim.Native.Nat.{◌-◌}
-use lib.ListN.{length}
+use Rattle.std.proofs.Common.{◌-◌, length}
 use Rattle.follow.proofs.walk.+stars.Given as goal
 
 abbrev pub decreases-stars : goal.decreases-stars
-decreases-stars l = length l.code.now - l.w.end
+decreases-stars l = length l.code.now - l.walk.end

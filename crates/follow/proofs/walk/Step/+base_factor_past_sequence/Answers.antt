@@ -1,0 +1,57 @@
+-- `base`, `factor`, `sequence` and `past` meet their contracts: a law of WalkLaws for each way out.
+-- Assumes nothing.
+use Rattle.std.proofs.Common.{arith, sym, ◌∙◌}
+use Rattle.follow.proofs.StarLaws.{stands_within, stands_byte, stands_not}
+use Rattle.follow.proofs.WalkLaws.{pattern_base, empty_base, open_base, inner_base, whole_factor, end-seq, more-seq, end-past, either-past}
+use Rattle.follow.proofs.walk.Step.+base_factor_past_sequence.Goals as goal
+
+pub base-returns-then-not-stands : goal.base-returns-then-not-stands
+base-returns-then-not-stands t c =
+    pattern_base _ _ _ _ _ _ (stands_not _ _ _ _ c.stands.ensures c.if-not-stands.true (omega arith)) _ c.pattern-judged.ensures _ c.one-summary.ensures
+
+pub base-returns-then-stands : goal.base-returns-then-stands
+base-returns-then-stands t c =
+    empty_base _ _ _ _ _ _ (stands_byte _ _ _ _ c.stands.ensures c.if-not-stands.false) (stands_byte _ _ _ _ c.stands-2.ensures c.if-stands.true) _ c.nothing-summary.ensures
+
+pub base-returns-then-past-self : goal.base-returns-then-past-self
+base-returns-then-past-self t c =
+    open_base _ _ _ _ _ _ (stands_byte _ _ _ _ c.stands.ensures c.if-not-stands.false) (stands_not _ _ _ _ c.stands-2.ensures c.if-stands.false (omega arith)) _ c.past-past.ensures c.if-past-self.true
+
+pub base-returns : goal.base-returns
+base-returns t c =
+    inner_base _ _ _ _ _ _ (stands_byte _ _ _ _ c.stands.ensures c.if-not-stands.false) (stands_not _ _ _ _ c.stands-2.ensures c.if-stands.false (omega arith)) _ c.past-past.ensures
+
+pub factor-returns : goal.factor-returns
+factor-returns t c = whole_factor _ _ _ _ _ _ _ _ c.base-base.ensures c.stars.ensures
+
+pub past-returns-then-not-stands : goal.past-returns-then-not-stands
+past-returns-then-not-stands t c = end-past _ _ _ _ _ _ _ c.sequence-sequence.ensures (stands_not _ _ _ _ c.stands.ensures c.if-not-stands.true (omega arith))
+
+pub past-returns : goal.past-returns
+past-returns t c =
+    either-past _ _ _ _ _ _ _ c.sequence-sequence.ensures (stands_byte _ _ _ _ c.stands.ensures c.if-not-stands.false) _ c.past-other.ensures _ c.one_of-summary.ensures
+
+pub sequence-returns-then-not-starts : goal.sequence-returns-then-not-starts
+sequence-returns-then-not-starts t c = end-seq _ _ _ _ _ _ _ c.factor-factor.ensures (sym c.starts.ensures ∙ c.if-not-starts.true)
+
+pub sequence-returns : goal.sequence-returns
+sequence-returns t c =
+    more-seq _ _ _ _ _ _ _ c.factor-factor.ensures (sym c.starts.ensures ∙ c.if-not-starts.false) _ c.sequence-rest.ensures _ c.in_order-summary.ensures
+
+pub base-overflow_add-inside : goal.base-overflow_add-inside
+base-overflow_add-inside t c = let h = stands_within _ _ _ _ c.stands.ensures c.if-not-stands.false in omega arith
+
+pub base-overflow_add-result : goal.base-overflow_add-result
+base-overflow_add-result t c = let h = stands_within _ _ _ _ c.stands-2.ensures c.if-stands.true in omega arith
+
+pub base-past-past-requires : goal.base-past-past-requires
+base-past-past-requires t c = let h = stands_within _ _ _ _ c.stands.ensures c.if-not-stands.false in (omega arith, tt)
+
+pub past-overflow_add-sequence : goal.past-overflow_add-sequence
+past-overflow_add-sequence t c = let h = stands_within _ _ _ _ c.stands.ensures c.if-not-stands.false in omega arith
+
+pub past-past-other-requires : goal.past-past-other-requires
+past-past-other-requires t c =
+    let h = stands_within _ _ _ _ c.stands.ensures c.if-not-stands.false in
+    let o = c.sequence-sequence.ensures.onwards in
+    (omega arith, tt)
