@@ -1,7 +1,8 @@
 -- The responses worked, in order. Document 02, C-16: "Below an act stands one row for each response worked, in order".
 -- Assumes nothing.
-use Rattle.std.specs.Prelude.{List, [], ◌∷◌, ℕ, zero, suc, ◌-◌}
-use Rattle.std.proofs.Math.Option.{Option, none, some}
+use Rattle.std.specs.Prelude.{List, [], ◌∷◌, ℕ, zero, suc, ◌-◌, Option, None, Some}
+use Rattle.std.proofs.Math.Option as maybe
+use Rattle.std.proofs.Math.Option.{none, some}
 use Rattle.common.specs.Limits.{max_responses}
 use Rattle.grammar.specs.Trees.{Response, pass, hold, send, anew}
 use Rattle.patterns.specs.Meets.{Order}
@@ -9,10 +10,8 @@ use Rattle.chain.specs.Work.{Duty, fill, chain}
 use Rattle.chain.specs.Responses.{word_of}
 use Rattle.chain.specs.Steps.{Remaining}
 use Rattle.chain.specs.declared.responses.Word.{Word}
-use Rattle.chain.specs.declared.steps.Status.{Status}
-use Rattle.chain.specs.declared.steps.Status.TheVariants.{Going, Ended}
+use Rattle.chain.specs.declared.steps.End.{End}
 use Rattle.chain.specs.declared.steps.WorkedResponse.{WorkedResponse}
-use Rattle.chain.specs.declared.steps.WorkedResponse.TheVariants.{Nothing, By}
 
 -- a response worked: its rule, "the response's four-letter word", "the act as it reached that rule"
 pub record ResponseRow (N R : Type 0) : Type 0 where
@@ -22,7 +21,7 @@ pub record ResponseRow (N R : Type 0) : Type 0 where
 
 module _ {N R : Type 0} where
   -- no rows follow an unfit template
-  abbrev pub if_fit : (List N → List (ResponseRow N R)) → Option (List N) → List (ResponseRow N R)
+  abbrev pub if_fit : (List N → List (ResponseRow N R)) → maybe.Option (List N) → List (ResponseRow N R)
   if_fit go none = []
   if_fit go (some e) = go e
 
@@ -52,11 +51,11 @@ abbrev pub rows_from : (List ℕ → List (Duty ℕ ℕ)) → Remaining → List
 rows_from look s = rows look (max_responses - s.worked) s.rest s.event
 
 -- the rows l that follow a step, where the work goes on
-abbrev pub while_going : Status → List (ResponseRow ℕ ℕ) → List (ResponseRow ℕ ℕ)
-while_going Going l = l
-while_going (Ended d) l = []
+abbrev pub while_going : Option End → List (ResponseRow ℕ ℕ) → List (ResponseRow ℕ ℕ)
+while_going None l = l
+while_going (Some d) l = []
 
 -- the rows from a step on: that of the response worked, which the event e reached, and those after it
-abbrev pub rows_of : WorkedResponse → List ℕ → List (ResponseRow ℕ ℕ) → List (ResponseRow ℕ ℕ)
-rows_of Nothing e l = []
-rows_of (By i word) e l = record { rule = i; word = word; event = e } ∷ l
+abbrev pub rows_of : Option WorkedResponse → List ℕ → List (ResponseRow ℕ ℕ) → List (ResponseRow ℕ ℕ)
+rows_of None e l = []
+rows_of (Some r) e l = record { rule = r.rule; word = r.word; event = e } ∷ l

@@ -1,4 +1,4 @@
-use Prim.Native.Nat.{◌-◌}
+use Rattle.std.proofs.Common.{◌-◌}
 use Rattle.chain.proofs.responses.+fill.Given as goal
 
 abbrev pub decreases-fill : goal.decreases-fill

@@ -1,21 +1,20 @@
 -- `respond` meets its contract: a law of RespondLaws for each way out.
 -- Assumes nothing.
-use Rattle.chain.proofs.RespondLaws.{respond-none, respond-pass, respond-hold, respond-send, respond-anew}
+use Rattle.std.proofs.Common.{arith, rules}
+use Rattle.chain.proofs.RespondLaws.{respond-short, respond-pass, respond-hold, respond-send, respond-anew}
 use Rattle.chain.proofs.responses.respond.Goals as goal
 
-pub returns-then-at-code : goal.returns-then-at-code
-returns-then-at-code c = rw c.given_by.ensures (respond-none _ _ _ c.if-at-code.true)
+pub returns-in_default : goal.returns-in_default
+returns-in_default c = let h = rw c.in_default.is at c.get.ensures.lookup in respond-short _ _ _ _ h.0.0 h.0.2 (search (rules, c.in_default.len_below))
 
-pub returns-then-b-eq112 : goal.returns-then-b-eq112
-returns-then-b-eq112 c = rw c.given_by-then-b-eq112.ensures (respond-pass _ _ _ _ c.byte_at-b.ensures c.if-b-eq112.true)
+pub returns-in-112 : goal.returns-in-112
+returns-in-112 c = let h = c.in-Some-len2-up.ensures.lookup in respond-pass _ _ _ _ h.0.0 h.0.2 c.in-112.is
 
-pub returns-then-b-eq104 : goal.returns-then-b-eq104
-returns-then-b-eq104 c = rw c.given_by-then-b-eq104.ensures (respond-hold _ _ _ _ c.byte_at-b.ensures c.if-b-eq104.true)
+pub returns-in-104 : goal.returns-in-104
+returns-in-104 c = let h = c.in-Some-len2-up.ensures.lookup in respond-hold _ _ _ _ h.0.0 h.0.2 c.in-104.is
 
-pub returns-then-b-eq115 : goal.returns-then-b-eq115
-returns-then-b-eq115 c =
-    rw c.given_by-then-b-eq115.ensures (respond-send _ _ _ _ c.byte_at-b.ensures _ c.template-f.ensures c.if-b-eq115.true)
+pub returns-in-115 : goal.returns-in-115
+returns-in-115 c = let h = c.in-Some-len2-up.ensures.lookup in respond-send _ _ _ _ h.0.0 h.0.2 _ c.template.ensures c.in-115.is
 
-pub returns : goal.returns
-returns c =
-    rw c.given_by-2.ensures (respond-anew _ _ _ _ c.byte_at-b.ensures _ c.template-f.ensures c.if-b-eq112.false c.if-b-eq104.false c.if-b-eq115.false)
+pub returns-in_default-letter : goal.returns-in_default-letter
+returns-in_default-letter c = let h = c.in-Some-len2-up.ensures.lookup in respond-anew _ _ _ _ h.0.0 h.0.2 _ c.template-in_default-letter.ensures (λ e. omega arith) (λ e. omega arith) (λ e. omega arith)

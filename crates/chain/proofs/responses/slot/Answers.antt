@@ -1,21 +1,32 @@
 -- `slot` meets its contract: a law of FillLaws for each way out.
 -- Assumes nothing.
-use Rattle.chain.proofs.FillLaws.{slot_none, slot_mark, slot_role, slot_beyond, slot_place}
+use Rattle.std.proofs.Common.{◌∙◌}
+use Rattle.chain.proofs.FillLaws.{slot_none, slot_short, slot_mark, slot_role, slot_beyond, slot_place}
 use Rattle.chain.proofs.responses.slot.Goals as goal
 
-pub returns-then-at-code : goal.returns-then-at-code
-returns-then-at-code c = rw c.no_slot.ensures (slot_none _ _ _ c.if-at-code.true)
+pub returns-in_err-byte : goal.returns-in_err-byte
+returns-in_err-byte c = rw c.from_residual.ensures (slot_none _ _ _ c.in_err-byte.ensures.lookup.3)
 
-pub returns-then-k-event : goal.returns-then-k-event
-returns-then-k-event c =
-    rw c.no_slot-then-k-event.ensures (slot_beyond _ _ _ c.if-b-eq35.true _ _ c.byte_at.ensures c.index-k.ensures c.if-k-event.true)
+pub returns-in_err-digit : goal.returns-in_err-digit
+returns-in_err-digit c =
+    rw c.from_residual-in_err-digit.ensures
+    (slot_short _ _ _ _ (c.in_ok-byte.ensures.lookup.3.1 0) c.if-byte-eq35.true c.in_err-digit.ensures.lookup.3)
 
-pub returns-then-b-eq35 : goal.returns-then-b-eq35
-returns-then-b-eq35 c =
-    rw c.slot_for.ensures (slot_place _ _ _ c.if-b-eq35.true _ _ c.byte_at.ensures c.index-k.ensures c.if-k-event.false)
+pub returns-in_err-role : goal.returns-in_err-role
+returns-in_err-role c =
+    rw c.from_residual-in_err-role.ensures
+    (slot_beyond _ _ _ _ (c.in_ok-byte.ensures.lookup.3.1 0) c.if-byte-eq35.true _ _ (c.in_ok-digit.ensures.lookup.3.1 0)
+    (c.from.ensures ∙ c.saturating_sub.ensures) c.in_err-role.ensures.lookup.3)
 
-pub returns-then-b-lt128 : goal.returns-then-b-lt128
-returns-then-b-lt128 c = rw c.no_slot-then-b-lt128.ensures (slot_mark _ _ _ c.if-b-eq35.false c.if-b-lt128.true)
+pub returns-then-byte-eq35 : goal.returns-then-byte-eq35
+returns-then-byte-eq35 c =
+    slot_place _ _ _ _ (c.in_ok-byte.ensures.lookup.3.1 0) c.if-byte-eq35.true _ _ (c.in_ok-digit.ensures.lookup.3.1 0)
+    (c.from.ensures ∙ c.saturating_sub.ensures) c.in_ok-role.ensures.lookup.3.0 _ (c.in_ok-role.ensures.lookup.3.1 0)
+
+pub returns-in_err-role-2 : goal.returns-in_err-role-2
+returns-in_err-role-2 c =
+    rw c.from_residual-in_err-role-2.ensures
+    (slot_mark _ _ _ _ (c.in_ok-byte.ensures.lookup.3.1 0) c.if-byte-eq35.false c.in_err-role-2.ensures)
 
 pub returns : goal.returns
-returns c = rw c.slot_for-2.ensures (slot_role _ _ _ c.if-b-eq35.false)
+returns c = slot_role _ _ _ _ (c.in_ok-byte.ensures.lookup.3.1 0) c.if-byte-eq35.false _ c.in_ok-role-2.ensures.1
