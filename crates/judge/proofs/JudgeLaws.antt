@@ -19,8 +19,7 @@ use Rattle.intake.proofs.TakenNames.{rules-long}
 use Rattle.judge.specs.Judge.{rule_numbered, is_whole, judge_of}
 use Rattle.judge.specs.Judging.{ListJudged, Lent, lent_of, Judged}
 use Rattle.judge.proofs.RuleNumbers.{not-newest, is-newest, none_at}
-use Rattle.judge.specs.declared.answers.Verdict.{Verdict}
-use Rattle.judge.specs.declared.answers.Verdict.TheVariants.{NoRule, NotWhole}
+use Rattle.judge.specs.Verdict.{Verdict, NoRule, NotWhole}
 
 -- rule i of those kept is the one that the machine has by that number
 abbrev Found : State → List PositionRule → ℕ → Type 0

@@ -1,4 +1,5 @@
 pub mod RuleNumbers
+pub mod Handed
 pub mod RecordLaws
 pub mod ListLaws
 pub mod JudgeLaws

@@ -24,8 +24,7 @@ use Rattle.intake.specs.Names.{Event, Roles}
 use Rattle.judge.specs.Judge.{RecordAnswer, an_event, refusal, answer_by, text_answer, frame_answer, record_answer, number_of}
 use Rattle.judge.proofs.RecordLaws.{malformed_answer}
 use Rattle.judge.specs.Rows.{Act, RecordRefused, record_3, record_3_line, record_4, record_6}
-use Rattle.judge.specs.declared.answers.Verdict.{Verdict}
-use Rattle.judge.specs.declared.answers.Verdict.TheVariants.{Malformed, NotInLanguage, Unknown}
+use Rattle.judge.specs.Verdict.{Verdict, Malformed, NotInLanguage, Unknown}
 
 module _ (rs : Roles) (s : List ℕ) where
   -- what a record is that gives this

@@ -1,9 +1,7 @@
 -- What the judge record-answers in a record, by the kind that `ask` tells.
 -- Assumes nothing.
-use mathlib.Core.Path.{◌≡◌, refl}
-use mathlib.Core.List.{List}
-use Prim.Native.Nat.{ℕ}
-use native.Mathlib.Omega.{arith}
+use Rattle.std.proofs.Common.{◌≡◌, ℕ, List, refl, sym, ap, ◌∙◌, arith, Ok, Err}
+use Rattle.common.specs.declared.refusals.Refusal.TheVariants as why
 use Rattle.frame.specs.Text.{text_of}
 use Rattle.frame.specs.Record.{event_byte, frame_of}
 use Rattle.frame.specs.Framed.{Framed, Says}
@@ -13,12 +11,14 @@ use Rattle.frame.proofs.FrameLaws.{frame_exactly}
 use Rattle.follow.specs.declared.state.Sheet.{Sheet}
 use Rattle.intake.specs.Names.{Event, Roles}
 use Rattle.intake.specs.Represents.{roles_in}
-use Rattle.intake.specs.Asking.{Means, seen-refusal, seen-event, Told, told-short, told_malformed, told_line, told-event}
+use Rattle.intake.specs.Asking.{Asks, Means, seen-refusal, seen-event, Told, told-short, told_malformed, told_line, told-event}
 use Rattle.intake.specs.declared.asks.Kind.TheVariants.{Refusal, Line, Event as EventKind}
 use Rattle.intake.specs.declared.asks.Request.{Request}
 use Rattle.intake.proofs.KindLaws.{by_line}
 use Rattle.judge.specs.Judge.{an_event, refusal, verdict_by, text_answer, frame_answer, record_answer}
-use Rattle.judge.specs.declared.answers.Verdict.TheVariants.{Malformed}
+use Rattle.judge.specs.Judging.{refusal_by, gives_event, gives_refusal, EventAsked}
+use Rattle.judge.specs.Verdict.{Malformed}
+use Rattle.judge.proofs.Handed.{verdict_by-number, seven-by_number}
 
 module _ (rs : Roles) (b : List ℕ) where
   -- a record that is not framed as an event
@@ -55,3 +55,18 @@ module _ (sh : Sheet) (b : List ℕ) where
   answer-event _ (told_line h) e = let z : ◌≡◌ {A = ℕ} 0 1 = cc in absurd (omega arith)
   answer-event _ (told-event h (seen-refusal a)) e = let z : ◌≡◌ {A = ℕ} 0 1 = cc in absurd (omega arith)
   answer-event _ (told-event h (seen-event {ws = ws} m a)) e = (ws, m, rw (h, a) refl)
+
+-- what `ask` tells, as the judge hands it on
+module _ (ns b : List ℕ) (r : Request) (asks : Asks ns b r) where
+  pub event-refused : r.kind ≡ Refusal → EventAsked ns b (Err (refusal_by r.number))
+  event-refused e =
+      record {
+        seven = seven-by_number r.number;
+        right = λ sh naming q. gives_refusal (answer-refusal sh b r (asks.right sh naming q) e ∙ ap refusal (sym (verdict_by-number r.number)));
+      }
+
+  pub event-line : r.kind ≡ Line → EventAsked ns b (Err why.Malformed)
+  event-line e = record { seven = refl; right = λ sh naming q. gives_refusal (answer-line sh b r (asks.right sh naming q) e) }
+
+  pub event-given : r.kind ≡ EventKind → EventAsked ns b (Ok r.event)
+  event-given e = record { seven = tt; right = λ sh naming q. let d = answer-event sh b r (asks.right sh naming q) e in gives_event d.1 d.2 }

@@ -11,7 +11,7 @@ use Rattle.positions.specs.Matcher.{matches}
 use Rattle.follow.specs.Meaning.{past_meaning}
 use Rattle.intake.specs.Names.{Event, Roles}
 use Rattle.judge.specs.Judge.{RecordAnswer, an_event, record_answer, on_answer, judge_records}
-use Rattle.judge.specs.declared.answers.Verdict.TheVariants.{Yes, No}
+use Rattle.judge.specs.Verdict.{Yes, No}
 
 -- the records say these events, one each
 pub data Say (rs : Roles) : List (List ℕ) → List Event → Type 0 where

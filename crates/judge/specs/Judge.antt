@@ -18,8 +18,7 @@ use Rattle.follow.specs.Meaning.{past_meaning}
 use Rattle.intake.specs.Asked.{Asked, refused_by, asks_role, asks_rule, asks_event, asked_event}
 use Rattle.intake.specs.Names.{Event, Roles, Rule}
 use Rattle.intake.specs.Machine.{PositionRule, PositionMachine}
-use Rattle.judge.specs.declared.answers.Verdict.{Verdict}
-use Rattle.judge.specs.declared.answers.Verdict.TheVariants.{Yes, No, NoRule, NotWhole, Malformed, NotInLanguage, Unknown}
+use Rattle.judge.specs.Verdict.{Verdict, Yes, No, NoRule, NotWhole, Malformed, NotInLanguage, Unknown}
 
 -- document 01's number of each answer; yes and no refuse nothing
 abbrev pub number_of : Verdict → ℕ

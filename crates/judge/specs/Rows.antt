@@ -19,8 +19,7 @@ use Rattle.intake.specs.Names.{Event, Roles, Rule}
 use Rattle.book.specs.Book.{Book}
 use Rattle.intake.specs.Machine.{PositionRule}
 use Rattle.judge.specs.Judge.{number_of}
-use Rattle.judge.specs.declared.answers.Verdict.{Verdict}
-use Rattle.judge.specs.declared.answers.Verdict.TheVariants.{Yes, No}
+use Rattle.judge.specs.Verdict.{Verdict, Yes, No}
 
 -- the rules of a machine with positions, without what they have seen
 abbrev pub rules_of : List PositionRule → List Rule

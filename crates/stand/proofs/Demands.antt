@@ -66,7 +66,7 @@ use Rattle.snapshot.specs.Reading.{RestoredBy}
 use Rattle.snapshot.proofs.Exactly as snapshots
 use Rattle.judge.specs.Judging.{lent_of, Judged}
 use Rattle.judge.specs.Rows.{VerdictRow, book_rules}
-use Rattle.judge.specs.declared.answers.Verdict.{Verdict}
+use Rattle.judge.specs.Verdict.{Verdict}
 use Rattle.judge.proofs.Exactly.{book_judged}
 use Rattle.stand.specs.Operations.{OperatedAs, Operated, LeftBy, Ran}
 use Rattle.stand.specs.Kinds.{OperationsRun}

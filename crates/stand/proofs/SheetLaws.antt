@@ -15,7 +15,7 @@ use Rattle.book.proofs.Whole.{whole-state}
 use Rattle.intake.specs.Represents.{Represents}
 use Rattle.monitor.specs.Sessions.{Begun}
 use Rattle.judge.specs.Judging.{lent_of, Judged}
-use Rattle.judge.specs.declared.answers.Verdict.{Verdict}
+use Rattle.judge.specs.Verdict.{Verdict}
 use Rattle.stand.specs.Sheets.{call_of, book_of, answer_number, sheet_judged, RecordLeaves, SheetLeaves}
 
 -- the machine that n records of a sheet leave

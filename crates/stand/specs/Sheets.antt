@@ -10,8 +10,7 @@ use Rattle.book.specs.MachineSteps.{PositionMachine, machine_step, machine_of}
 use Rattle.book.specs.Session.{left}
 use Rattle.intake.specs.Represents.{Represents}
 use Rattle.judge.specs.Judge.{number_of, judge_of}
-use Rattle.judge.specs.declared.answers.Verdict.{Verdict}
-use Rattle.judge.specs.declared.answers.Verdict.TheVariants.{Yes, No, NoRule, NotWhole, Malformed, NotInLanguage, Unknown}
+use Rattle.judge.specs.Verdict.{Verdict, Yes, No, NoRule, NotWhole, Malformed, NotInLanguage, Unknown}
 use Rattle.stand.specs.Rounds.{shift}
 
 -- a record handed over with a buffer of 50 bytes, whose reply is dropped

@@ -1,6 +1,8 @@
 pub mod Film
 pub mod RepresentsFilm
 pub mod Answers
+pub mod Refusals
+pub mod Viewed
 pub mod Views
 pub mod Lines
 pub mod Showing

@@ -11,10 +11,10 @@
 // A short last record gets R 02. An empty file gives no line. A file that cannot be opened or read is named, with the reason, on standard error.
 #![tactic(auto)]
 
-pub mod answers;
 pub mod matching;
 pub mod records;
 pub mod shown;
+pub mod taking;
 pub mod view;
 
 use anyhow::Context;

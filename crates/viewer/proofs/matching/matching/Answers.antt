@@ -1,9 +1,11 @@
-use Rattle.viewer.proofs.MatchLaws.{onward, finish}
+use Rattle.std.proofs.Common.{◌∙◌, refl}
+use Rattle.viewer.proofs.MatchLaws.{held-min, onward, finish}
 use Rattle.viewer.proofs.Telling.{matching-told}
 use Rattle.viewer.proofs.matching.matching.Goals as goal
 
-pub loop-i-preserved : goal.loop-i-preserved
-loop-i-preserved c = onward _ _ c.loop-i.m c.loop-i.i _ _ c.loop-i.invariant c.loop-i-test.true c.matches.ensures c.joined-m.ensures
+pub loop-rule-preserved : goal.loop-rule-preserved
+loop-rule-preserved c =
+    onward _ _ _ _ _ _ c.loop-rule.invariant c.loop-rule-test.true c.matches-now.ensures (rw (c.only_if-set.ensures, c.single.ensures) refl)
 
 pub returns : goal.returns
-returns c = matching-told _ _ (finish _ _ _ c.loop-i.i c.capped-count.ensures.is c.loop-i.invariant c.loop-i-test.false)
+returns c = matching-told _ _ (finish _ _ _ c.loop-rule.rule (c.min-rule-end.ensures ∙ held-min _) c.loop-rule.invariant c.loop-rule-test.false)

@@ -1,4 +1,3 @@
-use Rattle.std.proofs.Common.{arith}
 use Rattle.columns.proofs.WriteLaws.{writes_none}
 use Rattle.viewer.specs.Lines.{listed}
 use Rattle.viewer.proofs.WriteLaws.{writes_rule}
@@ -6,10 +5,7 @@ use Rattle.viewer.proofs.shown.those_in.Goals as goal
 
 pub loop-i-init : goal.loop-i-init
 unfolding listed
-loop-i-init c = record { within = omega arith; written = writes_none _ _ }
+loop-i-init c = writes_none _ _
 
 pub loop-i-preserved : goal.loop-i-preserved
-loop-i-preserved c = record {
-  within = omega arith;
-  written = writes_rule _ _ c.loop-i.i _ c.has.ensures c.loop-i.invariant.written c.named-next.ensures;
-}
+loop-i-preserved c = writes_rule _ _ _ _ c.has.ensures c.loop-i.invariant c.named-next.ensures

@@ -1,0 +1,32 @@
+// What the judge reads of a sheet.
+ghost use Rattle.std.specs.Prelude.{◌≡◌};
+ghost use Rattle.judge.specs.Judging.{lent_by, lent_of};
+
+use follow::Sheet;
+
+// All of a sheet but the names of its rules, lent: the first `roles` names and parents count, and the first `rules` rows and ends. The slices may have any lengths.
+#[derive(Clone, Copy)]
+pub struct SheetView<'a> {
+    pub names: &'a [u64],
+    pub roles: usize,
+    pub parents: &'a [u8],
+    pub rows: &'a [u8],
+    pub ends: &'a [u64],
+    pub rules: usize,
+}
+
+impl<'a> From<&'a Sheet> for SheetView<'a> {
+    ghost from_gives = { λ sheet view. lent_by view ≡ lent_of sheet.now };
+
+    // The sheet's own arrays and counts.
+    fn from(sheet: &'a Sheet) -> SheetView<'a> {
+        SheetView {
+            names: &sheet.names,
+            roles: sheet.role_count,
+            parents: &sheet.parents,
+            rows: &sheet.rows,
+            ends: &sheet.ends,
+            rules: sheet.rule_count,
+        }
+    }
+}
