@@ -2,7 +2,7 @@
 ghost use Rattle.std.specs.Prelude.{◌≡◌, get_or};
 ghost use Rattle.follow.specs.Walked.{stands_at, starts, StarsRead, BaseRead, FactorRead, SequenceRead, PastRead};
 
-use positions::{Summary, in_order, nothing, one, one_of, repeated};
+use positions::Summary;
 
 // Where a spelling ends, and what the pass found of it.
 #[derive(Clone, Copy)]
@@ -42,7 +42,7 @@ fn stars(code: &[u8], walk: Walk) -> Walk
     if !stands(code, walk.end, b'*') {
         return walk;
     }
-    let summary = repeated(walk.summary);
+    let summary = walk.summary.repeated();
     stars(
         code,
         Walk {
@@ -60,7 +60,7 @@ impl Step<'_> {
     {
         if !stands(self.code, at, b'(') {
             let judged = patterns::pattern(self.code, at, self.event, self.parents);
-            let summary = one(self.positions, judged.ok, k);
+            let summary = Summary::one(self.positions, judged.ok, k);
             return Walk {
                 end: judged.end,
                 summary,
@@ -68,7 +68,7 @@ impl Step<'_> {
         }
         let inside = at + 1;
         if stands(self.code, inside, b')') {
-            let summary = nothing(k);
+            let summary = Summary::nothing(k);
             return Walk {
                 end: inside + 1,
                 summary,
@@ -103,7 +103,7 @@ impl Step<'_> {
             return factor;
         }
         let rest = self.sequence(factor.end, factor.summary.next);
-        let summary = in_order(factor.summary, rest.summary);
+        let summary = factor.summary.in_order(rest.summary);
         Walk {
             end: rest.end,
             summary,
@@ -120,7 +120,7 @@ impl Step<'_> {
             return sequence;
         }
         let other = self.past(sequence.end + 1, sequence.summary.next);
-        let summary = one_of(sequence.summary, other.summary);
+        let summary = sequence.summary.one_of(other.summary);
         Walk {
             end: other.end,
             summary,
