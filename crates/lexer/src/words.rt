@@ -50,6 +50,7 @@ pub fn first_word(s: &[u8]) -> &[u8]
 }
 
 // Whether two slices hold the same bytes.
+#[tactic(auto, using(crate::proofs::SameLaws::pointwise_same))]
 pub fn same(a: &[u8], k: &[u8]) -> bool
     ensures { result ≡ same a.now k.now }
 {
