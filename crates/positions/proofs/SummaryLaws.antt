@@ -14,7 +14,8 @@ use Rattle.positions.specs.Walk.{SetSummary, on_pat, on_empty, on_seq, on_alt, o
 use Rattle.positions.specs.Sets.{has_at, bit_of, only_if, shares}
 use Rattle.positions.specs.Summaries.{after, pat_summary, empty_summary, seq_summary, alt_summary, star_summary, summary, step_of, ends_of}
 use Rattle.positions.specs.declared.summaries.Summary.{Summary}
-use Rattle.common.proofs.Bools.{and_swap, same_test}
+use Rattle.common.proofs.Bools.{same_test}
+use Rattle.std.proofs.Math.Bool.{and_comm}
 use Rattle.positions.proofs.SetLaws.{has_none, has_or, has_only_if, has_bit, has_one, shares_iff, bits_below}
 use Rattle.positions.proofs.Following.{matches_at_ends, ends_any, step-within}
 
@@ -40,7 +41,7 @@ same-pat m met k h =
     record {
       nullable-same = refl;
       ending-same = refl;
-      first-same = λ n. if_same {c = met} (bit_of k) n refl (has_bit k n h) ∙ and_swap met (eqb n k);
+      first-same = λ n. if_same {c = met} (bit_of k) n refl (has_bit k n h) ∙ and_comm met (eqb n k);
       moved_same = has_none;
       last-same = λ n. has_bit k n h;
     }
