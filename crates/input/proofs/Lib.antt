@@ -1,2 +1,2 @@
-pub mod ProgressLaws
 pub mod ReadLaws
+pub mod RecordLaws

@@ -1,10 +1,10 @@
 // The records of an open file, one at a time, so that a file may be of any length.
 //
-// The loop that answers the records stays in each program.
+// What is done with a record is each program's own, and is handed to `each_record` as a closure.
 #![tactic(auto)]
 
-pub mod progress;
+pub mod output;
 pub mod records;
 
-pub use progress::{Progress, goes_on, start};
-pub use records::{next, read_full};
+pub use output::written;
+pub use records::{Stop, each_record, next, read_full};

@@ -1,11 +1,19 @@
-// The next record of an open file.
-ghost use Rattle.std.specs.Prelude.{◌≡◌, ◌-◌, ◌<◌, IfOk, length, take};
+// The records of an open file.
+ghost use Rattle.std.specs.Prelude.{◌≡◌, ◌<◌, ◌≤◌, IfOk, length, take};
 ghost use Rattle.std.specs.Io.KnownBytes.{Consumes, IsAtEnd};
-ghost use Rattle.input.specs.Progress.{Got, IsPrefixLen};
+ghost use Rattle.input.specs.Records.{IsPrefixLen, HandedOn};
 
-use crate::progress::Progress;
 use std::io;
 use std::io::Read;
+
+// Why no further record is asked for: the file has ended, so that the last record is not whole or there is none; an answer could not be written;
+// as many records are answered as a number of 64 bits counts, which no file reaches.
+#[derive(Clone, Copy, Debug, PartialEq, Eq)]
+pub enum Stop {
+    Ended,
+    Unwritten,
+    Counted,
+}
 
 // One read, to the start of the bytes that are unread so far: how many came, none at the end of the file.
 fn one_read<R: Read>(file: &mut R, rest: &mut [u8]) -> io::Result<usize>
@@ -34,37 +42,40 @@ pub fn read_full<R: Read>(file: &mut R, bytes: &mut [u8]) -> io::Result<usize>
     Ok(done)
 }
 
-// How many bytes the next record has, read to the start of bytes: 128, fewer in a short last record, none where nothing is left. A read that
-// fails is an error, and brings no record.
-fn length<R: Read>(file: &mut R, bytes: &mut [u8; 128]) -> io::Result<usize>
-    ensures count { IfOk result (λ n. IsPrefixLen n bytes.new) }
-    ensures bytes { IfOk result (λ n. Consumes (R.remaining file.old) (R.remaining file.new) (take n bytes.new)) }
-    ensures end { IfOk result (λ n. n < 128 → IsAtEnd (R.remaining file.new)) }
+// The next record, read to the start of `bytes` and lent from there: 128 bytes, fewer in a short last record, none where nothing is left. A read
+// that fails is an error, and brings no record.
+pub fn next<'a, R: Read>(file: &mut R, bytes: &'a mut [u8; 128]) -> io::Result<&'a [u8]>
+    ensures small { IfOk result (λ s. length s.now ≤ 128) }
+    ensures bytes { IfOk result (λ s. Consumes (R.remaining file.old) (R.remaining file.new) s.now) }
+    ensures end { IfOk result (λ s. length s.now < 128 → IsAtEnd (R.remaining file.new)) }
 {
-    read_full(file, bytes)
+    let n = read_full(file, bytes)?;
+    Ok(&bytes[..n])
 }
 
-// One less, where there is one.
-fn less(n: u64) -> u64
-    ensures { result ≡ n - 1 }
+// Hands every record of the file to `answer`, in order, a short last one as it is. `answer` says whether its answer could be written; it stops
+// only there, or at a record that is not whole. A read that fails is an error, and what it brought is not handed on.
+pub fn each_record<R: Read, F: FnMut(&[u8]) -> bool>(
+    file: &mut R,
+    mut answer: F,
+) -> io::Result<Stop>
+    requires { F.IsAlwaysCallable answer }
+    ensures { IfOk result (λ stop. HandedOn F.FnMut answer (R.remaining file.old) (R.remaining file.new) stop) }
 {
-    if n == 0 {
-        return 0;
+    for count in 0..u64::MAX {
+        let mut bytes = [0u8; 128];
+        let record = next(file, &mut bytes)?;
+        if record.len() == 0 {
+            return Ok(Stop::Ended);
+        }
+        let len = record.len();
+        let written = answer(record);
+        if !written {
+            return Ok(Stop::Unwritten);
+        }
+        if len < 128 {
+            return Ok(Stop::Ended);
+        }
     }
-    n - 1
-}
-
-// Reads the next record to the start of bytes, and counts it. Whether its answer can be written is still to be told.
-pub fn next<R: Read>(file: &mut R, p: Progress, bytes: &mut [u8; 128]) -> io::Result<Progress>
-    ensures got { IfOk result (λ r. Got p bytes.new r) }
-    ensures bytes { IfOk result (λ r. Consumes (R.remaining file.old) (R.remaining file.new) (take r.len bytes.new)) }
-    ensures end { IfOk result (λ r. r.len < 128 → IsAtEnd (R.remaining file.new)) }
-{
-    let n = length(file, bytes)?;
-    let left = less(p.left);
-    Ok(Progress {
-        left: left,
-        len: n,
-        written: false,
-    })
+    Ok(Stop::Counted)
 }
