@@ -2,7 +2,7 @@
 //
 // The readers promise at most 126 bytes of code and at most four roles. Where a function takes them as a struct, it tests the length once more,
 // so that it is safe for any struct.
-use crate::shown::{code_shown, name_shown, roles_shown, say};
+use crate::shown::{code_shown, name_shown, roles_shown};
 use code::{Encoded, EventLine, patterns};
 use frame::{Frame, framed, text};
 use grammar::Kind;
@@ -11,78 +11,72 @@ use std::io;
 // A role line: its name, and whether its parent is held.
 fn role(rt: &impl Print, t: &[u8], held: &[u64]) -> io::Result<()> {
     let r = code::role_line(t, held);
-    say(rt, b"role ")?;
+    rt.write_all(b"role ")?;
     name_shown(rt, r.name)?;
     if r.parent < held.len() {
-        return say(rt, b", parent held");
+        return rt.write_all(b", parent held");
     }
-    say(rt, b", parent not held, refused 6")
+    rt.write_all(b", parent not held, refused 6")
 }
 
 // How many patterns a past has, by the code that begins with it.
 fn patterns_shown(rt: &impl Print, body: &Encoded) -> io::Result<()> {
-    let code = body.code;
-    let len = body.len;
-    if 126 < len {
-        return Ok(());
+    match body.code.get(..body.len) {
+        Some(code) => print!(rt; "{}", patterns(code)),
+        None => Ok(()),
     }
-    print!(rt; "{}", patterns(&code[..len]))
 }
 
 // The code of a rule.
 fn body_shown(rt: &impl Print, body: &Encoded, held: &[u64]) -> io::Result<()> {
-    let code = body.code;
-    let len = body.len;
-    if 126 < len {
-        return Ok(());
+    match body.code.get(..body.len) {
+        Some(code) => code_shown(rt, code, held),
+        None => Ok(()),
     }
-    code_shown(rt, &code[..len], held)
 }
 
 // Whether the roles are held and the patterns few enough, with the refusal: 6 before 7.
 fn verdict(rt: &impl Print, unknown: bool, fits: bool) -> io::Result<()> {
     if unknown {
-        return say(rt, b", role not held, refused 6");
+        return rt.write_all(b", role not held, refused 6");
     }
-    say(rt, b", roles held")?;
+    rt.write_all(b", roles held")?;
     if fits {
         return Ok(());
     }
-    say(rt, b", refused 7")
+    rt.write_all(b", refused 7")
 }
 
 // A rule line: its name, the number of patterns in its past, whether its roles are held, and its code.
 fn rule(rt: &impl Print, t: &[u8], held: &[u64]) -> io::Result<()> {
     let r = code::rule_line(t, held);
-    say(rt, b"rule ")?;
+    rt.write_all(b"rule ")?;
     name_shown(rt, r.name)?;
-    say(rt, b", patterns ")?;
+    rt.write_all(b", patterns ")?;
     patterns_shown(rt, &r.body)?;
     if r.fits {
-        say(rt, b" fit")?;
+        rt.write_all(b" fit")?;
     } else {
-        say(rt, b" too many")?;
+        rt.write_all(b" too many")?;
     }
     verdict(rt, r.body.unknown, r.fits)?;
-    say(rt, b", code ")?;
+    rt.write_all(b", code ")?;
     body_shown(rt, &r.body, held)
 }
 
 // The roles of an event, by id and name.
 fn event_shown(rt: &impl Print, e: &EventLine, held: &[u64]) -> io::Result<()> {
-    let roles = e.roles;
-    let len = e.len;
-    if 4 < len {
-        return Ok(());
+    match e.roles.get(..e.len) {
+        Some(roles) => roles_shown(rt, roles, held),
+        None => Ok(()),
     }
-    roles_shown(rt, &roles[..len], held)
 }
 
 // An event: whether its roles are held, and their ids.
 fn event(rt: &impl Print, e: &EventLine, held: &[u64]) -> io::Result<()> {
-    say(rt, b"event")?;
+    rt.write_all(b"event")?;
     verdict(rt, e.unknown, true)?;
-    say(rt, b", ids")?;
+    rt.write_all(b", ids")?;
     event_shown(rt, e, held)
 }
 
@@ -91,7 +85,7 @@ fn line(rt: &impl Print, t: &[u8], held: &[u64]) -> io::Result<()> {
     match grammar::line_kind(t) {
         Kind::Role => role(rt, t, held),
         Kind::Rule => rule(rt, t, held),
-        Kind::Neither => say(rt, b"refused 4"),
+        Kind::Neither => rt.write_all(b"refused 4"),
     }
 }
 
@@ -101,7 +95,7 @@ fn event_text(rt: &impl Print, t: &[u8], held: &[u64]) -> io::Result<()> {
     if e.fits {
         return event(rt, &e, held);
     }
-    say(rt, b"refused 4")
+    rt.write_all(b"refused 4")
 }
 
 // What became of any bytes.
@@ -109,7 +103,7 @@ pub fn judged(rt: &impl Print, bytes: &[u8], held: &[u64]) -> io::Result<()> {
     match framed(bytes) {
         Frame::Line => line(rt, text(bytes), held),
         Frame::Event => event_text(rt, text(bytes), held),
-        Frame::WrongLength => say(rt, b"refused 2"),
-        Frame::Malformed => say(rt, b"refused 3"),
+        Frame::WrongLength => rt.write_all(b"refused 2"),
+        Frame::Malformed => rt.write_all(b"refused 3"),
     }
 }
