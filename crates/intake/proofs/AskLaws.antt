@@ -13,7 +13,7 @@ use Rattle.code.specs.Events.{event_line_of}
 use Rattle.follow.specs.declared.state.Sheet.{Sheet}
 use Rattle.intake.specs.Represents.{table_of, Naming}
 use Rattle.intake.specs.Asking.{refusal, a_line, event_request, request_by, request_of, Told, told-short, told_malformed, told_line, told-event, Asks}
-use Rattle.intake.specs.declared.asks.Request.{Request}
+use Rattle.intake.specs.Requests.{Request}
 use Rattle.intake.proofs.EventLaws.{event-seen}
 
 pub text-small : (s : List ℕ) → length (text_of s) ≤ 126

@@ -5,7 +5,7 @@ use Prim.Native.Nat.{ℕ}
 use Rattle.names.specs.Name.{packed}
 use Rattle.follow.specs.State.{refuse, taken}
 use Rattle.follow.specs.declared.state.State.{State}
-use Rattle.follow.specs.declared.declare.Declared.{Declared}
+use Rattle.follow.specs.Declaring.{Declared}
 use Rattle.intake.specs.Names.{Name, Rule}
 use Rattle.intake.specs.Asked.{Asked, refused_by, asks_role, asks_rule}
 use Rattle.intake.specs.Machine.{PositionMachine, with_role, with_rule}

@@ -27,7 +27,7 @@ use Rattle.intake.specs.Names.{Name, Event}
 use Rattle.intake.specs.Asked.{refused_by, asks_event, asked_event}
 use Rattle.intake.specs.Represents.{name_at, table_of, roles_in, NameWord, Naming}
 use Rattle.intake.specs.Asking.{refusal, an_event, event_request, Means, EventSeen, seen-refusal, seen-event}
-use Rattle.intake.specs.declared.asks.Request.{Request}
+use Rattle.intake.specs.Requests.{Request}
 use Rattle.intake.proofs.SaidNames.{said-names}
 use Rattle.intake.proofs.TakenNames.{lacks_in, found_in}
 

@@ -13,8 +13,8 @@ use Rattle.intake.specs.Names.{Name, Event, Roles}
 use Rattle.intake.specs.Asked.{refused_by, asks_event, asked_line, asked_text, asked}
 use Rattle.intake.specs.Represents.{roles_in}
 use Rattle.intake.specs.Asking.{Means, seen-refusal, seen-event, Told, told-short, told_malformed, told_line, told-event}
-use Rattle.intake.specs.declared.asks.Kind.TheVariants.{Refusal, Line, Event as EventKind}
-use Rattle.intake.specs.declared.asks.Request.{Request}
+use Rattle.intake.specs.Requests.{Refusal, Line, Event as EventKind}
+use Rattle.intake.specs.Requests.{Request}
 
 module _ (sh : Sheet) (b : List ℕ) where
   -- it is refused by the number told

@@ -14,7 +14,7 @@ use Rattle.grammar.specs.declared.lines.Kind.TheVariants.{Role, Rule, Neither}
 use Rattle.grammar.proofs.Language.{line_taken}
 use Rattle.follow.specs.State.{refuse}
 use Rattle.follow.specs.declared.state.State.{State}
-use Rattle.follow.specs.declared.declare.Declared.{Declared}
+use Rattle.follow.specs.Declaring.{Declared}
 use Rattle.intake.specs.Asked.{asked_line}
 use Rattle.intake.specs.Machine.{PositionMachine}
 use Rattle.intake.specs.Represents.{Represents}

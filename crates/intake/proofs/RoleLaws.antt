@@ -21,7 +21,7 @@ use Rattle.code.proofs.LineLaws.{RoleTold, role-told}
 use Rattle.patterns.specs.Roles.{is_held}
 use Rattle.follow.specs.State.{capped, is_taken, join_role, declare_role}
 use Rattle.follow.specs.declared.state.State.{State}
-use Rattle.follow.specs.declared.declare.Declared.{Declared}
+use Rattle.follow.specs.Declaring.{Declared}
 use Rattle.follow.proofs.Steady.{role-steady}
 use Rattle.intake.specs.Names.{Name}
 use Rattle.intake.specs.Asked.{is_free, asked_line}

@@ -30,7 +30,7 @@ use Rattle.follow.specs.Rules.{Tree}
 use Rattle.follow.specs.State.{is_taken, join_rule, declare_rule, Unmoved}
 use Rattle.follow.specs.State as kept
 use Rattle.follow.specs.declared.state.State.{State}
-use Rattle.follow.specs.declared.declare.Declared.{Declared}
+use Rattle.follow.specs.Declaring.{Declared}
 use Rattle.follow.proofs.Steady.{rule-steady}
 use Rattle.follow.proofs.ShortLaws.{valid-short}
 use Rattle.intake.specs.Names.{Name}

@@ -1,6 +1,6 @@
 -- What asking promises: `ask` tells what a record asks, by the names of the roles held; nothing is declared and nothing changes.
 -- Assumes nothing.
-use Rattle.std.specs.Prelude.{◌≡◌, cond, List, [], ◌∷◌, map, ℕ, ◌<◌}
+use Rattle.std.specs.Prelude.{◌≡◌, cond, Result, Ok, Err, List, [], ◌∷◌, map, ℕ, ◌<◌}
 use Rattle.grammar.specs.Lines.{read_event}
 use Rattle.frame.specs.Text.{text_of}
 use Rattle.frame.specs.Record.{refusal as number_of, frame_of}
@@ -9,14 +9,17 @@ use Rattle.frame.specs.declared.records.Frame.TheVariants.{Line as LineRecord, E
 use Rattle.code.specs.Events.{event_line_of}
 use Rattle.code.specs.declared.events.EventLine.{EventLine}
 use Rattle.common.specs.All.{All}
+use Rattle.common.specs.Refusals.{refusal_number}
+use Rattle.common.specs.declared.refusals.Refusal as why
 use Rattle.follow.specs.State.{event_of}
 use Rattle.follow.specs.declared.state.Event as kept
 use Rattle.follow.specs.declared.state.Sheet.{Sheet}
 use Rattle.intake.specs.Names.{Event}
 use Rattle.intake.specs.Asked.{refused_by, asks_event, asked_event}
 use Rattle.intake.specs.Represents.{name_at, table_of, roles_in, Naming}
-use Rattle.intake.specs.declared.asks.Kind.TheVariants.{Refusal, Line, Event as EventKind}
-use Rattle.intake.specs.declared.asks.Request.{Request}
+use Rattle.intake.specs.Requests.{Refusal, Line, Event as EventKind, Request}
+use Rattle.intake.specs.declared.asks.Request as asked
+use Rattle.intake.specs.declared.asks.Request.TheVariants.{Line as AsksLine, Event as AsksEvent}
 
 -- no event
 abbrev pub no_event : kept.Event
@@ -33,6 +36,17 @@ a_line = record { kind = Line; number = 0; event = no_event }
 -- an event, to be worked
 abbrev pub an_event : kept.Event → Request
 an_event e = record { kind = EventKind; number = 0; event = e }
+
+-- an answer of `ask` as a request
+abbrev pub request_as : Result asked.Request why.Refusal → Request
+request_as (Ok AsksLine) = a_line
+request_as (Ok (AsksEvent e)) = an_event e
+request_as (Err r) = refusal (refusal_number r)
+
+-- the same where an event is asked for
+abbrev pub event_as : Result kept.Event why.Refusal → Request
+event_as (Ok e) = an_event e
+event_as (Err r) = refusal (refusal_number r)
 
 -- what an event's text asks, by what is read of it: row 4 "text not in the language", row 6 "a role used (.. in an act) isn't declared", or the event
 unfoldable pub event_request : EventLine → Request

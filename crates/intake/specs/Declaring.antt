@@ -8,7 +8,7 @@ use Rattle.grammar.specs.Lines.{Says, read_line}
 use Rattle.names.specs.Name.{packed}
 use Rattle.follow.specs.State.{refuse, taken, Unmoved}
 use Rattle.follow.specs.declared.state.State.{State}
-use Rattle.follow.specs.declared.declare.Declared.{Declared}
+use Rattle.follow.specs.Declaring.{Declared}
 use Rattle.intake.specs.Names.{Name}
 use Rattle.intake.specs.Asked.{Asked, refused_by, asks_role, asks_rule, asks_event, asked_line}
 use Rattle.intake.specs.Machine.{PositionMachine, with_role, with_rule, names_of}

@@ -22,6 +22,14 @@ use Rattle.follow.specs.declared.state.State.{State}
 use Rattle.intake.specs.Names.{Name, Roles, Rule}
 use Rattle.intake.specs.Machine.{PositionRule, PositionMachine}
 
+-- the arrays of a sheet have their lengths
+pub record SheetSized (s : Sheet) : Type 0 where
+  pub names : length s.names ≡ 64
+  pub parents : length s.parents ≡ 64
+  pub rule-names : length s.rule_names ≡ 32
+  pub ends : length s.ends ≡ 32
+  pub rows : length s.rows ≡ 4096
+
 -- THE ROLES
 
 -- the packed names held

@@ -1,92 +1,56 @@
 // What a record asks, by the names held. Nothing is declared here, and nothing changes.
 ghost use Rattle.std.specs.Prelude.{◌≡◌, take};
 ghost use Rattle.code.specs.Events.{event_line_of};
-ghost use Rattle.intake.specs.Asking.{refusal, a_line, event_request, Asks};
+ghost use Rattle.intake.specs.Asking.{event_request, event_as, request_as, Asks};
 
 use code::event_line;
-use follow::{Event, capped};
+use common::Refusal;
+use follow::Event;
 use frame::{Frame, framed, text};
 
-// A record is refused; or it is a line, to be declared; or an event, to be worked.
+// What a record asks that is not refused: a line, to be declared; or an event, to be worked, with ids for names.
 #[derive(Clone, Copy)]
-pub enum Kind {
-    Refusal,
+pub enum Request {
     Line,
-    Event,
+    Event(Event),
 }
 
-// Document 01's number, 0 when the record is not refused, and the event with ids for names, where it is one.
-#[derive(Clone, Copy)]
-pub struct Request {
-    pub kind: Kind,
-    pub number: u8,
-    pub event: Event,
-}
-
-// Refused, by document 01's number.
-fn refused(number: u8) -> Request
-    ensures { result ≡ refusal number }
+// The first count names; where there are fewer, those that there are.
+pub fn held(names: &[u64], count: usize) -> &[u64]
+    ensures { result.now ≡ take count names.now }
 {
-    let none = Event {
-        len: 0,
-        roles: [0; 4],
-    };
-    Request {
-        kind: Kind::Refusal,
-        number: number,
-        event: none,
-    }
+    &names[..count.min(names.len())]
 }
 
-// A line.
-fn a_line() -> Request
-    ensures { result ≡ a_line }
-{
-    let none = Event {
-        len: 0,
-        roles: [0; 4],
-    };
-    Request {
-        kind: Kind::Line,
-        number: 0,
-        event: none,
-    }
-}
-
-// What the text of an event asks: refusal 4 or 6, or the event.
-fn ask_event(text: &[u8], names: &[u64]) -> Request
-    ensures { result ≡ event_request (event_line_of names.now text.now) }
+// The event that a text asks for: refusal 4 or 6, or the event.
+fn ask_event(text: &[u8], names: &[u64]) -> Result<Event, Refusal>
+    ensures { event_as result ≡ event_request (event_line_of names.now text.now) }
 {
     let line = event_line(text, names);
-    if line.fits {
-        if line.unknown {
-            return refused(6);
-        }
-        let roles = line.roles;
-        let event = Event {
-            len: line.len,
-            roles: roles,
-        };
-        return Request {
-            kind: Kind::Event,
-            number: 0,
-            event: event,
-        };
+    if !line.fits {
+        return Err(Refusal::NotInLanguage);
     }
-    refused(4)
+    if line.unknown {
+        return Err(Refusal::NotDeclared);
+    }
+    let roles = line.roles;
+    Ok(Event {
+        len: line.len,
+        roles,
+    })
 }
 
 // What any bytes ask, by the first count names: rows 2 and 3, a line, or an event with its rows 4 and 6.
-pub fn ask<'a>(bytes: &'a [u8], names: &'a [u64], count: usize) -> Request
-    ensures { Asks (take count names.now) bytes.now result }
+pub fn ask(bytes: &[u8], names: &[u64], count: usize) -> Result<Request, Refusal>
+    ensures { Asks (take count names.now) bytes.now (request_as result) }
 {
     match framed(bytes) {
-        Frame::Line => a_line(),
+        Frame::Line => Ok(Request::Line),
         Frame::Event => {
-            let held = capped(names.len(), count);
-            ask_event(text(bytes), &names[..held])
+            let event = ask_event(text(bytes), held(names, count))?;
+            Ok(Request::Event(event))
         }
-        Frame::WrongLength => refused(2),
-        Frame::Malformed => refused(3),
+        Frame::WrongLength => Err(Refusal::RecordLength),
+        Frame::Malformed => Err(Refusal::Malformed),
     }
 }

@@ -1,10 +1,10 @@
 // One door for records: what a record asks, told by the names held, and the declaring of lines.
 //
-// Asking reads lent slices and changes nothing; declaring takes the state and hands it back. Every function takes any state and any bytes.
+// Asking reads lent slices and changes nothing; declaring changes the state that it is lent. Every function takes any state and any bytes.
 #![tactic(auto)]
 
 mod asks;
 mod lines;
 
-pub use asks::{Kind, Request, ask};
+pub use asks::{Request, ask};
 pub use lines::declare;

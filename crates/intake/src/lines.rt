@@ -1,41 +1,37 @@
 // Declaring role lines and rule lines.
-ghost use Rattle.std.specs.Prelude.{◌≡◌, take};
-ghost use Rattle.code.specs.Lines.{role_line_of, rule_line_of};
+ghost use Rattle.std.specs.Prelude.{◌≡◌};
+ghost use Rattle.follow.specs.Declaring.{declared_as};
 ghost use Rattle.intake.specs.Declaring.{LineDeclared};
+ghost use Rattle.intake.specs.Represents.{SheetSized, table_of};
 
-use code::{RoleLine, RuleLine};
-use follow::{Declared, State, capped, declare_role, declare_rule, refused};
+use crate::asks::held;
+use code::{role_line, rule_line};
+use common::Refusal;
+use follow::{Sheet, State};
 use grammar::{Kind, line_kind};
 
-// A role line, read by the first count names.
-fn read_role<'a>(text: &'a [u8], names: &'a [u64], count: usize) -> RoleLine
-    ensures { result ≡ role_line_of (take count names.now) text.now }
+// The packed names of the roles held. The arrays' lengths are those of their types.
+fn role_names(sheet: &Sheet) -> &[u64]
+    ensures names { result.now ≡ table_of sheet.now }
+    ensures sized { SheetSized sheet.now }
 {
-    let held = capped(names.len(), count);
-    code::role_line(text, &names[..held])
+    held(&sheet.names, sheet.role_count)
 }
 
-// A rule line, read by the first count names.
-fn read_rule<'a>(text: &'a [u8], names: &'a [u64], count: usize) -> RuleLine
-    ensures { result ≡ rule_line_of (take count names.now) text.now }
+// The text of a line: refusals 4 to 8, or the role or rule joins, and its packed name is the answer. Where it is refused, nothing changes.
+pub fn declare(state: &mut State, text: &[u8]) -> Result<u64, Refusal>
+    ensures { LineDeclared state.old text.now (declared_as result state.new) }
 {
-    let held = capped(names.len(), count);
-    code::rule_line(text, &names[..held])
-}
-
-// The text of a line: refusals 4 to 8, or the role or rule joins.
-pub fn declare(f: State, text: &[u8]) -> Declared
-    ensures { LineDeclared f text.now result }
-{
+    let names = role_names(&state.sheet);
     match line_kind(text) {
         Kind::Role => {
-            let line = read_role(text, &f.sheet.names, f.sheet.role_count);
-            declare_role(f, line)
+            let line = role_line(text, names);
+            state.declare_role(line)
         }
         Kind::Rule => {
-            let line = read_rule(text, &f.sheet.names, f.sheet.role_count);
-            declare_rule(f, line)
+            let line = rule_line(text, names);
+            state.declare_rule(line)
         }
-        Kind::Neither => refused(f, 4),
+        Kind::Neither => Err(Refusal::NotInLanguage),
     }
 }
