@@ -1,15 +1,13 @@
 -- What each way through `slot`, `fill` and `template` shows.
 -- Assumes nothing.
 use mathlib.Core.Path.{◌≡◌, refl, sym, ap, ◌∙◌}
-use mathlib.Core.Bool.{Bool, true, false}
 use mathlib.Core.List.{List, [], ◌∷◌, ◌++◌, append_assoc, append-nil}
 use mathlib.Core.Option as maybe
 use mathlib.Core.Option.{none, some}
 use Rattle.std.specs.Prelude.{Option, None, Some, IfSome}
 use Prim.Native.Nat.{ℕ, zero, suc, ◌+◌, ◌-◌, ◌<◌, ◌≤◌}
 use native.Mathlib.Omega.{arith}
-use lib.ListN.{length, get_or, get_elem?, drop, take, get_or-eq_default}
-use Rattle.common.proofs.Bools.{true_not_false}
+use lib.ListN.{length, get_or, get_elem?, drop}
 use Rattle.grammar.specs.Trees.{Slot, named, place, Template}
 use Rattle.code.specs.Trees.{code_slots}
 use Rattle.patterns.proofs.Here as at
