@@ -17,19 +17,19 @@ use Rattle.grammar.specs.Valid.{ValidLine, ValidNames}
 use Rattle.grammar.specs.Parsed.{Parsed, none as failed, some as parsed, word_is, wholly}
 use Rattle.grammar.specs.Parser.{role_of, head_of, rule_of, event_of, depth}
 use Rattle.grammar.specs.Lines.{Says, declares, happens, or_else, read_line, read_event}
-use Rattle.grammar.specs.declared.lines.Kind.{Kind}
-use Rattle.grammar.specs.declared.lines.Kind.TheVariants.{Role, Rule, Neither}
+use Rattle.std.specs.Prelude.{Some, None}
+use Rattle.grammar.specs.declared.lines.LineKind.TheVariants.{Role, Rule}
 use Rattle.grammar.proofs.Spells.{Spells}
 use Rattle.grammar.proofs.SoundLines.{rule_sound, role_sound, event_sound}
 use Rattle.grammar.proofs.CompleteLines.{rule_read, role_read, event_read}
-use Rattle.grammar.proofs.Shapes.{Shaped, kind_of as kindOfTree, rule_shaped, role_shaped, event_shaped}
+use Rattle.grammar.proofs.Shapes.{Kind, Shaped, kind_of as kindOfTree, rule_shaped, role_shaped, event_shaped}
 
-kind-declares : (l : Line) (k : Kind) → kindOfTree l ≡ k → (k ≡ Neither → ⊥) → declares l ≡ true
+kind-declares : (l : Line) (k : Kind) → kindOfTree l ≡ k → (k ≡ None → ⊥) → declares l ≡ true
 kind-declares (role w p) k e f = refl
 kind-declares (rule w p t x) k e f = refl
 kind-declares (event ws) k e f = absurd (f (sym e))
 
-kind-happens : (l : Line) → kindOfTree l ≡ Neither → happens l ≡ true
+kind-happens : (l : Line) → kindOfTree l ≡ None → happens l ≡ true
 kind-happens (role w p) e = let z : ◌≡◌ {A = ℕ} 0 1 = cc in absurd (omega arith)
 kind-happens (rule w p t x) e = let z : ◌≡◌ {A = ℕ} 0 1 = cc in absurd (omega arith)
 kind-happens (event ws) e = refl
@@ -51,10 +51,10 @@ line-says : (s : List ℕ) (l : Line) → read_line s ≡ some l → Says s l ×
 unfolding read_line
 line-says s l e =
     or_read (wholly (rule_of (depth (length s)) (tokens s))) (wholly (role_of (tokens s))) l
-    (λ h. let g = read_says s Rule (rule_of (depth (length s)) (tokens s)) l (rule_sound (depth (length s)) (tokens s)) (rule_shaped (depth (length s)) (tokens s)) h in
-    (g.0, kind-declares l Rule g.1 (λ q. let z : ◌≡◌ {A = ℕ} 0 1 = cc in omega arith)))
-    (λ h. let g = read_says s Role (role_of (tokens s)) l (role_sound (tokens s)) (role_shaped (tokens s)) h in
-    (g.0, kind-declares l Role g.1 (λ q. let z : ◌≡◌ {A = ℕ} 0 1 = cc in omega arith)))
+    (λ h. let g = read_says s (Some Rule) (rule_of (depth (length s)) (tokens s)) l (rule_sound (depth (length s)) (tokens s)) (rule_shaped (depth (length s)) (tokens s)) h in
+    (g.0, kind-declares l (Some Rule) g.1 (λ q. let z : ◌≡◌ {A = ℕ} 0 1 = cc in omega arith)))
+    (λ h. let g = read_says s (Some Role) (role_of (tokens s)) l (role_sound (tokens s)) (role_shaped (tokens s)) h in
+    (g.0, kind-declares l (Some Role) g.1 (λ q. let z : ◌≡◌ {A = ℕ} 0 1 = cc in omega arith)))
     e
 
 -- a role line is no rule line
@@ -77,7 +77,7 @@ line_taken s l = (line-says s l, λ h. says-line s l h.0 h.1)
 event-says : (s : List ℕ) (l : Line) → read_event s ≡ some l → Says s l × (happens l ≡ true)
 unfolding read_event
 event-says s l e =
-    let g = read_says s Neither (event_of (tokens s)) l (event_sound (tokens s)) (event_shaped (tokens s)) e in
+    let g = read_says s None (event_of (tokens s)) l (event_sound (tokens s)) (event_shaped (tokens s)) e in
     (g.0, kind-happens l g.1)
 
 says-event : (s : List ℕ) (l : Line) → Says s l → happens l ≡ true → read_event s ≡ some l

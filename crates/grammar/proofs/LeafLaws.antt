@@ -1,124 +1,182 @@
 -- The readers of one token: a law for each answer.
 -- Assumes nothing.
-use mathlib.Core.Path.{◌≡◌, refl, sym, ◌∙◌}
-use mathlib.Core.Bool.{true, false, ◌||◌, or-false}
-use mathlib.Core.List.{List, [], ◌∷◌}
-use Prim.Native.Nat.{ℕ, ◌<◌, ◌≤◌}
-use native.Mathlib.Nat.{le_of_lt}
-use native.Mathlib.Omega.{arith}
-use lib.Dec.{eqb}
-use borrow.Author.Tests.{eq-eqb, ne_eqb, le-leb, lt-leb}
-use Rattle.lexer.specs.Words.{kind_of}
+use Rattle.std.proofs.Common.{◌≡◌, ℕ, ◌<◌, ◌+◌, Bool, true, false, List, [], ◌∷◌, length, eqb, Option, Some, None, Bor, ◌&&◌, not, leb, ◌-◌, refl, ap, sym, ◌∙◌, arith, eq-eqb, ne_eqb, le_of_lt}
+use Rattle.std.specs.Bool.{then_some, Decides}
+use Rattle.std.proofs.lemmas.Bool.Decides.{nat_tests}
+use Rattle.std.specs.Option.{is_some}
+use Rattle.std.specs.List.{list_any}
+use Rattle.lexer.specs.Class.{within}
+use Rattle.lexer.specs.Words.{kind_of, kind_number}
 use Rattle.lexer.specs.Tokens.{Token, word, mark, other, tokens, last, Next}
-use Rattle.lexer.specs.declared.tokens.Lexeme.{Lexeme}
-use Rattle.lexer.specs.declared.tokens.Lexeme.TheVariants.{End, Word, Mark, Other}
-use Rattle.grammar.specs.Parsed.{Parsed, mark_is, word_is, place_is, is_none}
+use Rattle.lexer.specs.First.{FirstToken, by_numbers}
+use Rattle.lexer.specs.declared.words.WordKind.{WordKind}
+use Rattle.lexer.specs.declared.words.WordKind.TheVariants as kinds
+use Rattle.lexer.specs.declared.tokens.Lexeme as declared
+use Rattle.lexer.specs.declared.tokens.Lexeme.TheVariants as found
+use Rattle.lexer.proofs.NextLaws.{next_means}
+use Rattle.lexer.proofs.KindNumbers.{kind_number_same}
+use Rattle.grammar.specs.Parsed.{Parsed, none, some, mark_is, word_is, place_is, is_none}
 use Rattle.grammar.specs.Parser.{begins}
-use Rattle.grammar.specs.Readings.{ReadingIs, Shorter, ReadsAs}
-use Rattle.grammar.specs.declared.leaves.Reading.{Reading}
-use Rattle.grammar.specs.declared.leaves.Reading.TheVariants.{Left, Bad}
+use Rattle.grammar.specs.Readings.{EndOf, ReadingIs, Shorter, ReadsAs}
 
-module _ (s : List ℕ) (b : ℕ) where
-  -- where the tokens are known, so is the answer
-  answer : {A : Type 0} (parse : List Token → Parsed A) (ts : List Token) (r : Reading) → tokens s ≡ ts → ReadingIs (parse ts) s r → ReadingIs (parse (tokens s)) s r
-  answer parse ts r e h = rw e h
+-- s begins with the token k, and t is what is left after it
+record Led (s : List ℕ) (k : Token) (t : List ℕ) : Type 0 where
+  pub shorter : length t < length s
+  pub end : EndOf s t
+  pub all : tokens s ≡ k ∷ tokens t
 
-  pub mark-yes : (m n : ℕ) → Next s (Mark m n) → m ≡ b → ReadsAs (mark_is b) s (Left n)
-  unfolding Next ReadingIs Shorter mark_is
-  mark-yes m n h e = record {
-    shorter = h.0;
-    answers = answer (mark_is b) (mark m ∷ tokens (last n s)) (Left n) h.1 (rw (eq-eqb m b e) (le_of_lt h.0, refl));
-  }
+led : (s : List ℕ) (k : Token) (t : List ℕ) → length t < length s → tokens s ≡ k ∷ tokens (last (length t) s) → t ≡ last (length t) s → Led s k t
+led s k t l e q = record {
+  shorter = l;
+  end = record { fits = le_of_lt l; bytes = q };
+  all = e ∙ ap (λ (u : List ℕ). k ∷ tokens u) (sym q);
+}
 
-  pub mark-no : (m n : ℕ) → Next s (Mark m n) → (m ≡ b → ⊥) → ReadsAs (mark_is b) s Bad
-  unfolding Next ReadingIs Shorter mark_is
-  mark-no m n h e = record {
-    shorter = tt;
-    answers = answer (mark_is b) (mark m ∷ tokens (last n s)) Bad h.1 (rw (ne_eqb m b e) tt);
-  }
+-- no other kind than a digit's has the number of a place
+no_place : (k : WordKind) → ((d : ℕ) → k ≡ kinds.Digit d → ⊥) → within 13 16 (kind_number k) ≡ false
+unfolding kind_number
+no_place kinds.Name f = refl
+no_place kinds.Role f = refl
+no_place kinds.Under f = refl
+no_place kinds.Rule f = refl
+no_place kinds.Any f = refl
+no_place kinds.Not f = refl
+no_place kinds.Or f = refl
+no_place kinds.Pass f = refl
+no_place kinds.Hold f = refl
+no_place kinds.Send f = refl
+no_place kinds.Anew f = refl
+no_place (kinds.Digit d) f = absurd (f d refl)
+no_place kinds.Other f = refl
 
-  pub mark-none : (l : Lexeme) → Next s l → ((m n : ℕ) → l ≡ Mark m n → ⊥) → ReadsAs (mark_is b) s Bad
-  unfolding Next ReadingIs Shorter mark_is
-  mark-none End h f = record { shorter = tt; answers = answer (mark_is b) [] Bad h tt }
-  mark-none (Word k n) h f = record { shorter = tt; answers = answer (mark_is b) (word h.1.0 ∷ tokens (last n s)) Bad h.1.2 tt }
-  mark-none (Mark m n) h f = absurd (f m n refl)
-  mark-none (Other o n) h f = record { shorter = tt; answers = answer (mark_is b) (other o ∷ tokens (last n s)) Bad h.1 tt }
-
-  pub word-yes : (k n : ℕ) → Next s (Word k n) → k ≡ b → ReadsAs (word_is b) s (Left n)
-  unfolding Next ReadingIs Shorter word_is
-  word-yes k n h e = record {
-    shorter = h.0;
-    answers = answer (word_is b) (word h.1.0 ∷ tokens (last n s)) (Left n) h.1.2 (rw (eq-eqb (kind_of h.1.0) b (h.1.1 ∙ e)) (le_of_lt h.0, refl));
-  }
-
-  pub word-no : (k n : ℕ) → Next s (Word k n) → (k ≡ b → ⊥) → ReadsAs (word_is b) s Bad
-  unfolding Next ReadingIs Shorter word_is
-  word-no k n h e = record {
-    shorter = tt;
-    answers = answer (word_is b) (word h.1.0 ∷ tokens (last n s)) Bad h.1.2 (rw (ne_eqb (kind_of h.1.0) b (λ q. e (sym h.1.1 ∙ q))) tt);
-  }
-
-  pub word_none : (l : Lexeme) → Next s l → ((k n : ℕ) → l ≡ Word k n → ⊥) → ReadsAs (word_is b) s Bad
-  unfolding Next ReadingIs Shorter word_is
-  word_none End h f = record { shorter = tt; answers = answer (word_is b) [] Bad h tt }
-  word_none (Word k n) h f = absurd (f k n refl)
-  word_none (Mark m n) h f = record { shorter = tt; answers = answer (word_is b) (mark m ∷ tokens (last n s)) Bad h.1 tt }
-  word_none (Other o n) h f = record { shorter = tt; answers = answer (word_is b) (other o ∷ tokens (last n s)) Bad h.1 tt }
-
+-- what each answer of `next` tells
 module _ (s : List ℕ) where
-  pub begins-mark : (m n : ℕ) → Next s (Mark m n) → begins (tokens s) ≡ (eqb m 60 || (eqb m 40 || eqb m 91))
-  unfolding Next begins
-  begins-mark m n h = rw (h.1, or-false (eqb m 91)) refl
+  none-led : FirstToken s None → tokens s ≡ []
+  unfolding Next
+  none-led h = next_means s (by_numbers None) h.told
 
-  pub begins-word : (k n : ℕ) → Next s (Word k n) → begins (tokens s) ≡ eqb k 4
-  unfolding Next begins
-  begins-word k n h = rw (h.1.2, h.1.1) refl
+  mark-led : (m : ℕ) (t : Bor (List ℕ)) → FirstToken s (Some (found.Mark m, t)) → Led s (mark m) t.now
+  unfolding Next
+  mark-led m t h = let n = next_means s (by_numbers (Some (found.Mark m, t))) h.told in led s (mark m) t.now n.0 n.1 h.parts
 
-  pub begins-none : (l : Lexeme) → Next s l → ((m n : ℕ) → l ≡ Mark m n → ⊥) → ((k n : ℕ) → l ≡ Word k n → ⊥) → begins (tokens s) ≡ false
-  unfolding Next begins
-  begins-none End h f g = rw h refl
-  begins-none (Word k n) h f g = absurd (g k n refl)
-  begins-none (Mark m n) h f g = absurd (f m n refl)
-  begins-none (Other o n) h f g = rw h.1 refl
+  other-led : (o : ℕ) (t : Bor (List ℕ)) → FirstToken s (Some (found.Other o, t)) → Led s (other o) t.now
+  unfolding Next
+  other-led o t h = let n = next_means s (by_numbers (Some (found.Other o, t))) h.told in led s (other o) t.now n.0 n.1 h.parts
 
-  pub place-yes : (k n : ℕ) → Next s (Word k n) → 12 < k → k ≤ 16 → ReadsAs place_is s (Left n)
-  unfolding Next ReadingIs Shorter place_is
-  place-yes k n h lo hi = record {
-    shorter = h.0;
-    answers = answer s 0 place_is (word h.1.0 ∷ tokens (last n s)) (Left n) h.1.2 (rw (h.1.1, le-leb 13 k lo, le-leb k 16 hi) (le_of_lt h.0, refl));
-  }
+  word-led : (k : WordKind) (w t : Bor (List ℕ)) → FirstToken s (Some (found.Word k w, t)) → (u : List ℕ) × (kind_of u ≡ kind_number k) × Led s (word u) t.now
+  unfolding Next
+  word-led k w t h =
+      let n = next_means s (by_numbers (Some (found.Word k w, t))) h.told in
+      (n.1.0, n.1.1, led s (word n.1.0) t.now n.0 n.1.2 h.parts.1)
 
-  pub place_low : (k n : ℕ) → Next s (Word k n) → k ≤ 12 → ReadsAs place_is s Bad
-  unfolding Next ReadingIs Shorter place_is
-  place_low k n h e = record {
-    shorter = tt;
-    answers = answer s 0 place_is (word h.1.0 ∷ tokens (last n s)) Bad h.1.2 (rw (h.1.1, lt-leb 13 k (omega arith)) tt);
-  }
+  -- a reader of one token, by what its parser does with the token in front
+  module _ {A : Type 0} (parse : List Token → Parsed A) where
+    takes : (k : Token) (t : Bor (List ℕ)) (a : A) → Led s k t.now → parse (k ∷ tokens t.now) ≡ some a (tokens t.now) → ReadsAs parse s (Some t)
+    unfolding ReadingIs Shorter
+    takes k t a h e = record { shorter = h.shorter; answers = rw (h.all, e) (h.end, refl) }
 
-  pub place_high : (k n : ℕ) → Next s (Word k n) → 12 < k → 16 < k → ReadsAs place_is s Bad
-  unfolding Next ReadingIs Shorter place_is
-  place_high k n h lo e = record {
-    shorter = tt;
-    answers = answer s 0 place_is (word h.1.0 ∷ tokens (last n s)) Bad h.1.2 (rw (h.1.1, le-leb 13 k lo, lt-leb k 16 e) tt);
-  }
+    leaves : (k : Token) (t : List ℕ) → Led s k t → parse (k ∷ tokens t) ≡ none → ReadsAs parse s None
+    unfolding ReadingIs Shorter
+    leaves k t h e = record { shorter = tt; answers = rw (h.all, e) tt }
 
-  pub place_none : (l : Lexeme) → Next s l → ((k n : ℕ) → l ≡ Word k n → ⊥) → ReadsAs place_is s Bad
-  unfolding Next ReadingIs Shorter place_is
-  place_none End h f = record { shorter = tt; answers = answer s 0 place_is [] Bad h tt }
-  place_none (Word k n) h f = absurd (f k n refl)
-  place_none (Mark m n) h f = record { shorter = tt; answers = answer s 0 place_is (mark m ∷ tokens (last n s)) Bad h.1 tt }
-  place_none (Other o n) h f = record { shorter = tt; answers = answer s 0 place_is (other o ∷ tokens (last n s)) Bad h.1 tt }
+    -- no token is left
+    pub no_token : FirstToken s None → parse [] ≡ none → ReadsAs parse s None
+    unfolding ReadingIs Shorter
+    no_token h e = record { shorter = tt; answers = rw (none-led h, e) tt }
 
-  pub ends-yes : (l : Lexeme) → Next s l → l ≡ End → is_none (tokens s) ≡ true
-  unfolding Next is_none
-  ends-yes End h e = rw h refl
-  ends-yes (Word k n) h e = let z : ◌≡◌ {A = ℕ} 0 1 = cc in absurd (omega arith)
-  ends-yes (Mark m n) h e = let z : ◌≡◌ {A = ℕ} 0 1 = cc in absurd (omega arith)
-  ends-yes (Other o n) h e = let z : ◌≡◌ {A = ℕ} 0 1 = cc in absurd (omega arith)
+  -- the mark b, or another mark
+  pub mark-read : (b m : ℕ) (t : Bor (List ℕ)) → FirstToken s (Some (found.Mark m, t)) → ReadsAs (mark_is b) s (then_some (eqb m b) t)
+  unfolding mark_is
+  mark-read b m t h = go (eqb m b) refl
+    where
+      go : (q : Bool) → eqb m b ≡ q → ReadsAs (mark_is b) s (then_some q t)
+      go true e = takes (mark_is b) (mark m) t tt (mark-led m t h) (rw e refl)
+      go false e = leaves (mark_is b) (mark m) t.now (mark-led m t h) (rw e refl)
 
-  pub ends-no : (l : Lexeme) → Next s l → (l ≡ End → ⊥) → is_none (tokens s) ≡ false
-  unfolding Next is_none
-  ends-no End h f = absurd (f refl)
-  ends-no (Word k n) h f = rw h.1.2 refl
-  ends-no (Mark m n) h f = rw h.1 refl
-  ends-no (Other o n) h f = rw h.1 refl
+  -- no mark
+  pub mark-other : (b : ℕ) (l : declared.Lexeme) (t : Bor (List ℕ)) → FirstToken s (Some (l, t)) → ((m : ℕ) → l ≡ found.Mark m → ⊥) → ReadsAs (mark_is b) s None
+  unfolding mark_is
+  mark-other b (found.Word k w) t h f = let n = word-led k w t h in leaves (mark_is b) (word n.0) t.now n.2 refl
+  mark-other b (found.Mark m) t h f = absurd (f m refl)
+  mark-other b (found.Other o) t h f = leaves (mark_is b) (other o) t.now (other-led o t h) refl
+
+  -- a word of that kind, or of another
+  pub word-read : (k kind : WordKind) (w t : Bor (List ℕ)) (q : Bool) → FirstToken s (Some (found.Word k w, t)) → Decides q (k ≡ kind)
+      → ReadsAs (word_is (kind_number kind)) s (then_some q t)
+  unfolding word_is
+  word-read k kind w t true h d =
+      let n = word-led k w t h in
+      takes (word_is (kind_number kind)) (word n.0) t n.0 n.2 (rw (eq-eqb (kind_of n.0) (kind_number kind) (n.1 ∙ ap kind_number (d.0 refl))) refl)
+  word-read k kind w t false h d =
+      let n = word-led k w t h in
+      let z : kind_of n.0 ≡ kind_number kind → ⊥ = λ e. let y = d.1 (kind_number_same k kind (sym n.1 ∙ e)) in cc in
+      leaves (word_is (kind_number kind)) (word n.0) t.now n.2 (rw (ne_eqb (kind_of n.0) (kind_number kind) z) refl)
+
+  -- no word
+  pub word-other : (kind : ℕ) (l : declared.Lexeme) (t : Bor (List ℕ)) → FirstToken s (Some (l, t)) → ((k : WordKind) (w : Bor (List ℕ)) → l ≡ found.Word k w → ⊥) → ReadsAs (word_is kind) s None
+  unfolding word_is
+  word-other kind (found.Word k w) t h f = absurd (f k w refl)
+  word-other kind (found.Mark m) t h f = leaves (word_is kind) (mark m) t.now (mark-led m t h) refl
+  word-other kind (found.Other o) t h f = leaves (word_is kind) (other o) t.now (other-led o t h) refl
+
+  -- a digit
+  pub place-digit : (d : ℕ) (w t : Bor (List ℕ)) → FirstToken s (Some (found.Word (kinds.Digit d) w, t)) → ReadsAs place_is s (then_some (leb 1 d && leb d 4) t)
+  unfolding place_is kind_number
+  place-digit d w t h = go (leb 1 d && leb d 4) refl
+    where
+      n : (u : List ℕ) × (kind_of u ≡ 12 + d) × Led s (word u) t.now
+      n = word-led (kinds.Digit d) w t h
+
+      same : within 13 16 (12 + d) ≡ (leb 1 d && leb d 4)
+      same = grind (arith, nat_tests)
+
+      go : (q : Bool) → (leb 1 d && leb d 4) ≡ q → ReadsAs place_is s (then_some q t)
+      go true e = takes place_is (word n.0) t (kind_of n.0 - 12) n.2 (rw (n.1, same, e) refl)
+      go false e = leaves place_is (word n.0) t.now n.2 (rw (n.1, same, e) refl)
+
+  -- a word of another kind
+  pub place-word : (k : WordKind) (w t : Bor (List ℕ)) → FirstToken s (Some (found.Word k w, t)) → ((d : ℕ) → k ≡ kinds.Digit d → ⊥) → ReadsAs place_is s None
+  unfolding place_is
+  place-word k w t h f =
+      let n = word-led k w t h in
+      leaves place_is (word n.0) t.now n.2 (rw (n.1, no_place k f) refl)
+
+  -- no word
+  pub place-other : (l : declared.Lexeme) (t : Bor (List ℕ)) → FirstToken s (Some (l, t)) → ((k : WordKind) (w : Bor (List ℕ)) → l ≡ found.Word k w → ⊥) → ReadsAs place_is s None
+  unfolding place_is
+  place-other (found.Word k w) t h f = absurd (f k w refl)
+  place-other (found.Mark m) t h f = leaves place_is (mark m) t.now (mark-led m t h) refl
+  place-other (found.Other o) t h f = leaves place_is (other o) t.now (other-led o t h) refl
+
+  -- whether no token is left
+  pub ends-is : (r : Option (declared.Lexeme × Bor (List ℕ))) (q : Bool) → FirstToken s r → is_some r ≡ not q → q ≡ is_none (tokens s)
+  unfolding is_none
+  ends-is None true h e = rw (none-led h) refl
+  ends-is None false h e = let z : ◌≡◌ {A = ℕ} 0 1 = cc in absurd (omega arith)
+  ends-is (Some (found.Word k w, t)) true h e = let z : ◌≡◌ {A = ℕ} 0 1 = cc in absurd (omega arith)
+  ends-is (Some (found.Word k w, t)) false h e = rw (word-led k w t h).2.all refl
+  ends-is (Some (found.Mark m, t)) true h e = let z : ◌≡◌ {A = ℕ} 0 1 = cc in absurd (omega arith)
+  ends-is (Some (found.Mark m, t)) false h e = rw (mark-led m t h).all refl
+  ends-is (Some (found.Other o, t)) true h e = let z : ◌≡◌ {A = ℕ} 0 1 = cc in absurd (omega arith)
+  ends-is (Some (found.Other o, t)) false h e = rw (other-led o t h).all refl
+
+  -- whether a factor begins: no token, any word, any mark, another byte
+  pub begins-none : FirstToken s None → begins (tokens s) ≡ false
+  unfolding begins
+  begins-none h = rw (none-led h) refl
+
+  pub begins-word : (k : WordKind) (w t : Bor (List ℕ)) (q : Bool) → FirstToken s (Some (found.Word k w, t)) → Decides q (k ≡ kinds.Any) → q ≡ begins (tokens s)
+  unfolding begins kind_number
+  begins-word k w t true h d = let n = word-led k w t h in rw (n.2.all, n.1, eq-eqb (kind_number k) 4 (ap kind_number (d.0 refl))) refl
+  begins-word k w t false h d =
+      let n = word-led k w t h in
+      let z : kind_number k ≡ 4 → ⊥ = λ e. let y = d.1 (kind_number_same k kinds.Any e) in cc in
+      rw (n.2.all, n.1, ne_eqb (kind_number k) 4 z) refl
+
+  pub begins-mark : (m : ℕ) (t : Bor (List ℕ)) → FirstToken s (Some (found.Mark m, t)) → begins (tokens s) ≡ list_any (λ b. eqb b m) (60 ∷ 40 ∷ 91 ∷ [])
+  unfolding begins
+  begins-mark m t h = rw (mark-led m t h).all (grind (arith, nat_tests))
+
+  pub begins-other : (o : ℕ) (t : Bor (List ℕ)) → FirstToken s (Some (found.Other o, t)) → begins (tokens s) ≡ false
+  unfolding begins
+  begins-other o t h = rw (other-led o t h).all refl

@@ -1,124 +1,109 @@
 -- The readers of stars and pasts: a law for each answer, from the answers of the readers that they call.
 -- Assumes nothing.
-use mathlib.Core.Path.{◌≡◌, refl, ap, sym, ◌∙◌}
-use mathlib.Core.Bool.{Bool, true, false, cond}
-use mathlib.Core.List.{List, [], ◌∷◌}
-use Prim.Native.Nat.{ℕ, ◌<◌, ◌≤◌}
-use native.Mathlib.Nat.{le_refl}
-use native.Mathlib.Omega.{arith}
-use lib.Dec.{eqb}
-use lib.ListN.{length}
-use Rattle.lexer.specs.Tokens.{Token, word, mark, other, tokens, last}
-use Rattle.lexer.proofs.TokenLaws.{last-length, last-last, last-all}
+use Rattle.std.proofs.Common.{◌≡◌, ℕ, Bool, true, false, cond, eqb, List, [], ◌∷◌, Some, None, Bor, refl, ap, sym, ◌∙◌, arith}
+use Rattle.lexer.specs.Tokens.{Token, word, mark, other, tokens}
 use Rattle.grammar.specs.Parsed.{none, some, mark_is}
 use Rattle.grammar.specs.Parser.{pattern_of, after_stars, begins, past_with, sequence_with, factor_with, base_with, past_of, sequence_of, factor_of, base_of}
-use Rattle.grammar.specs.Readings.{ReadingIs, ReadsAs, ReadsAsLevel, StarsPassed}
-use Rattle.grammar.specs.declared.leaves.Reading.{Reading}
-use Rattle.grammar.specs.declared.leaves.Reading.TheVariants.{Left, Bad}
-use Rattle.grammar.proofs.AnswerLaws.{map-answers, choose_bad, when_true, when_false, all_left}
-use Rattle.grammar.proofs.LevelLaws.{left-shorter, part_shorter, mapped, chain, chain_bad, chain-rest, choice, choice_bad, choice_ends, at_depth, level}
+use Rattle.grammar.specs.Readings.{Answer, EndOf, ReadingIs, ReadsAs, ReadsAsLevel, StarsPassed}
+use Rattle.grammar.proofs.AnswerLaws.{end_all, end_of_end, map-answers, choose_bad, when_true, when_false, all_left}
+use Rattle.grammar.proofs.LevelLaws.{part_shorter, mapped, chain, chain_bad, chain-rest, choice, choice_bad, choice_ends, at_depth, level}
 
-no-star : (s : List ℕ) (ts : List Token) → ReadingIs (mark_is 42 ts) s Bad → ts ≡ after_stars ts
+no-star : (s : List ℕ) (ts : List Token) → ReadingIs (mark_is 42 ts) s None → ts ≡ after_stars ts
 unfolding ReadingIs mark_is after_stars
 no-star s [] h = refl
 no-star s (word w ∷ ts) h = refl
 no-star s (mark m ∷ ts) h = go (eqb m 42) h
   where
-    go : (q : Bool) → ReadingIs (cond q (some (tt {0}) ts) none) s Bad → mark m ∷ ts ≡ cond q (after_stars ts) (mark m ∷ ts)
+    go : (q : Bool) → ReadingIs (cond q (some (tt {0}) ts) none) s None → mark m ∷ ts ≡ cond q (after_stars ts) (mark m ∷ ts)
     go true h = absurd h
     go false h = refl
 no-star s (other o ∷ ts) h = refl
 
-star : (s : List ℕ) (n : ℕ) (ts : List Token) → ReadingIs (mark_is 42 ts) s (Left n) → after_stars ts ≡ after_stars (tokens (last n s))
+star : (s : List ℕ) (t : Bor (List ℕ)) (ts : List Token) → ReadingIs (mark_is 42 ts) s (Some t) → EndOf s t.now × (after_stars ts ≡ after_stars (tokens t.now))
 unfolding ReadingIs mark_is after_stars
-star s n [] h = absurd h
-star s n (word w ∷ ts) h = absurd h
-star s n (mark m ∷ ts) h = go (eqb m 42) h
+star s t [] h = absurd h
+star s t (word w ∷ ts) h = absurd h
+star s t (mark m ∷ ts) h = go (eqb m 42) h
   where
-    go : (q : Bool) → ReadingIs (cond q (some (tt {0}) ts) none) s (Left n) → cond q (after_stars ts) (mark m ∷ ts) ≡ after_stars (tokens (last n s))
-    go true h = ap after_stars (sym h.1)
+    go : (q : Bool) → ReadingIs (cond q (some (tt {0}) ts) none) s (Some t) → EndOf s t.now × (cond q (after_stars ts) (mark m ∷ ts) ≡ after_stars (tokens t.now))
+    go true h = (h.0, ap after_stars (sym h.1))
     go false h = absurd h
-star s n (other o ∷ ts) h = absurd h
+star s t (other o ∷ ts) h = absurd h
 
-pub stars_stop : (s : List ℕ) → ReadsAs (mark_is 42) s Bad → StarsPassed s (length s)
-stars_stop s h = record { fits = le_refl (length s); left = ap tokens (last-all s) ∙ no-star s (tokens s) h.answers }
+pub stars_stop : (s : List ℕ) → ReadsAs (mark_is 42) s None → StarsPassed s s
+stars_stop s h = record { end = end_all s; left = no-star s (tokens s) h.answers }
 
-pub stars_more : (s t : List ℕ) (n r : ℕ) → ReadsAs (mark_is 42) s (Left n) → t ≡ last n s → StarsPassed t r → StarsPassed s r
-stars_more s t n r h e g =
-    let l : n < length s = left-shorter s n h.shorter in
-    let q : length t ≡ n = ap length e ∙ last-length n s (omega arith) in
-    let r≤ : r ≤ n = omega (arith, g.fits) in
-    record {
-      fits = omega arith;
-      left = sym (ap tokens (ap (last r) e ∙ last-last r n s r≤ (omega arith))) ∙ g.left ∙ ap (λ (u : List ℕ). after_stars (tokens u)) e ∙ sym (star s n (tokens s) h.answers);
-    }
+pub stars_more : (s : List ℕ) (t : Bor (List ℕ)) (u : List ℕ) → ReadsAs (mark_is 42) s (Some t) → StarsPassed t.now u → StarsPassed s u
+stars_more s t u h g =
+    let k = star s t (tokens s) h.answers in
+    record { end = end_of_end s t.now u k.0 g.end; left = g.left ∙ sym k.1 }
 
-some_left : {A : Type 0} (a : A) (ts : List Token) (s : List ℕ) (n : ℕ) → n ≤ length s → tokens (last n s) ≡ ts → ReadingIs (some a ts) s (Left n)
+some_left : {A : Type 0} (a : A) (ts : List Token) (s : List ℕ) (t : Bor (List ℕ)) → EndOf s t.now → tokens t.now ≡ ts → ReadingIs (some a ts) s (Some t)
 unfolding ReadingIs
-some_left a ts s n h e = (h, e)
+some_left a ts s t h e = (h, e)
 
 module _ (s : List ℕ) where
-  pub past_bad : ReadsAsLevel 5 sequence_of s Bad → ReadsAsLevel 6 past_of s Bad
+  pub past_bad : ReadsAsLevel 5 sequence_of s None → ReadsAsLevel 6 past_of s None
   unfolding past_of past_with
-  past_bad h = level 6 past_of s Bad (λ f l. chain_bad _ _ s (at_depth _ _ _ _ f h (omega arith)))
+  past_bad h = level 6 past_of s None (λ f l. chain_bad _ _ s (at_depth _ _ _ _ f h (omega arith)))
 
-  pub past-only : (n : ℕ) (t : List ℕ) → ReadsAsLevel 5 sequence_of s (Left n) → t ≡ last n s → ReadsAs (mark_is 43) t Bad → ReadsAsLevel 6 past_of s (Left n)
+  pub past-only : (t : Bor (List ℕ)) → ReadsAsLevel 5 sequence_of s (Some t) → ReadsAs (mark_is 43) t.now None → ReadsAsLevel 6 past_of s (Some t)
   unfolding past_of past_with
-  past-only n t h e m =
-      let k = left-shorter s n h.shorter in
-      level 6 past_of s (Left n) (λ f l. chain-rest _ _ s n t (Left n) (at_depth _ _ _ _ f h (omega arith)) e (λ q. choose_bad _ _ _ t (Left n) m.answers (all_left _ n s t (omega arith) e)))
+  past-only t h m =
+      let k = part_shorter s t h.shorter in
+      level 6 past_of s (Some t) (λ f l. chain-rest _ _ s t (Some t) (at_depth _ _ _ _ f h (omega arith)) (λ q. choose_bad _ _ _ t.now (Some t) m.answers (all_left _ t)))
 
-  pub past-either : (n : ℕ) (t : List ℕ) (m : ℕ) (u : List ℕ) (r : Reading) → ReadsAsLevel 5 sequence_of s (Left n) → t ≡ last n s
-      → ReadsAs (mark_is 43) t (Left m) → u ≡ last m t → ReadsAsLevel 6 past_of u r → ReadsAsLevel 6 past_of s r
+  pub past-either : (t u : Bor (List ℕ)) (r : Answer) → ReadsAsLevel 5 sequence_of s (Some t)
+      → ReadsAs (mark_is 43) t.now (Some u) → ReadsAsLevel 6 past_of u.now r → ReadsAsLevel 6 past_of s r
   unfolding past_of past_with
-  past-either n t m u r h e p q i =
-      let a : length u < length t = part_shorter t u m p.shorter q in
-      let b : length t < length s = part_shorter s t n h.shorter e in
-      level 6 past_of s r (λ f l. chain _ _ s n t r (at_depth _ _ _ _ f h (omega arith)) e (λ x. choice _ _ _ t m u r p q (λ y. mapped _ _ u r (at_depth _ _ _ _ f i (omega arith)))))
+  past-either t u r h p i =
+      let a = part_shorter t.now u p.shorter in
+      let b = part_shorter s t h.shorter in
+      level 6 past_of s r (λ f l. chain _ _ s t r (at_depth _ _ _ _ f h (omega arith)) (λ x. choice _ _ _ t.now u r p (λ y. mapped _ _ u.now r (at_depth _ _ _ _ f i (omega arith)))))
 
-  pub sequence_bad : ReadsAsLevel 4 factor_of s Bad → ReadsAsLevel 5 sequence_of s Bad
+  pub sequence_bad : ReadsAsLevel 4 factor_of s None → ReadsAsLevel 5 sequence_of s None
   unfolding past_of sequence_with
-  sequence_bad h = level 5 sequence_of s Bad (λ f l. chain_bad _ _ s (at_depth _ _ _ _ f h (omega arith)))
+  sequence_bad h = level 5 sequence_of s None (λ f l. chain_bad _ _ s (at_depth _ _ _ _ f h (omega arith)))
 
-  pub sequence_single : (n : ℕ) (t : List ℕ) → ReadsAsLevel 4 factor_of s (Left n) → t ≡ last n s → begins (tokens t) ≡ false → ReadsAsLevel 5 sequence_of s (Left n)
+  pub sequence_single : (t : Bor (List ℕ)) → ReadsAsLevel 4 factor_of s (Some t) → begins (tokens t.now) ≡ false → ReadsAsLevel 5 sequence_of s (Some t)
   unfolding past_of sequence_with
-  sequence_single n t h e b =
-      let k = left-shorter s n h.shorter in
-      level 5 sequence_of s (Left n) (λ f l. chain-rest _ _ s n t (Left n) (at_depth _ _ _ _ f h (omega arith)) e (λ q. when_false _ _ _ t (Left n) b (all_left _ n s t (omega arith) e)))
+  sequence_single t h b =
+      let k = part_shorter s t h.shorter in
+      level 5 sequence_of s (Some t) (λ f l. chain-rest _ _ s t (Some t) (at_depth _ _ _ _ f h (omega arith)) (λ q. when_false _ _ _ t.now (Some t) b (all_left _ t)))
 
-  pub sequence_beside : (n : ℕ) (t : List ℕ) (r : Reading) → ReadsAsLevel 4 factor_of s (Left n) → t ≡ last n s → begins (tokens t) ≡ true
-      → ReadsAsLevel 5 sequence_of t r → ReadsAsLevel 5 sequence_of s r
+  pub sequence_beside : (t : Bor (List ℕ)) (r : Answer) → ReadsAsLevel 4 factor_of s (Some t) → begins (tokens t.now) ≡ true
+      → ReadsAsLevel 5 sequence_of t.now r → ReadsAsLevel 5 sequence_of s r
   unfolding past_of sequence_with
-  sequence_beside n t r h e b i =
-      let a : length t < length s = part_shorter s t n h.shorter e in
-      level 5 sequence_of s r (λ f l. chain-rest _ _ s n t r (at_depth _ _ _ _ f h (omega arith)) e (λ q. when_true _ _ _ t r b (map-answers _ _ t r (i.answers f (omega arith)))))
+  sequence_beside t r h b i =
+      let a = part_shorter s t h.shorter in
+      level 5 sequence_of s r (λ f l. chain-rest _ _ s t r (at_depth _ _ _ _ f h (omega arith)) (λ q. when_true _ _ _ t.now r b (map-answers _ _ t.now r (i.answers f (omega arith)))))
 
-  pub factor_bad : ReadsAsLevel 3 base_of s Bad → ReadsAsLevel 4 factor_of s Bad
+  pub factor_bad : ReadsAsLevel 3 base_of s None → ReadsAsLevel 4 factor_of s None
   unfolding past_of factor_with
-  factor_bad h = level 4 factor_of s Bad (λ f l. chain_bad _ _ s (at_depth _ _ _ _ f h (omega arith)))
+  factor_bad h = level 4 factor_of s None (λ f l. chain_bad _ _ s (at_depth _ _ _ _ f h (omega arith)))
 
-  pub factor_stars : (n : ℕ) (t : List ℕ) (m : ℕ) → ReadsAsLevel 3 base_of s (Left n) → t ≡ last n s
-      → StarsPassed t m → ReadsAsLevel 4 factor_of s (Left m)
+  pub factor_stars : (t u : Bor (List ℕ)) → ReadsAsLevel 3 base_of s (Some t) → StarsPassed t.now u.now → ReadsAsLevel 4 factor_of s (Some u)
   unfolding past_of factor_with
-  factor_stars n t m h e g = level 4 factor_of s (Left m) (λ f l. chain-rest _ _ s n t (Left m) (at_depth _ _ _ _ f h (omega arith)) e (λ b. some_left _ (after_stars (tokens t)) t m g.fits g.left))
+  factor_stars t u h g =
+      level 4 factor_of s (Some u) (λ f l. chain-rest _ _ s t (Some u) (at_depth _ _ _ _ f h (omega arith)) (λ b. some_left _ (after_stars (tokens t.now)) t.now u g.end g.left))
 
-  pub base_pattern : (r : Reading) → ReadsAs (mark_is 40) s Bad → ReadsAsLevel 2 pattern_of s r → ReadsAsLevel 3 base_of s r
+  pub base_pattern : (r : Answer) → ReadsAs (mark_is 40) s None → ReadsAsLevel 2 pattern_of s r → ReadsAsLevel 3 base_of s r
   unfolding past_of base_with
   base_pattern r h i = level 3 base_of s r (λ f l. choice_bad _ _ _ s r h (mapped _ _ s r (at_depth _ _ _ _ f i (omega arith))))
 
-  pub base_nothing : (n : ℕ) (t : List ℕ) (m : ℕ) → ReadsAs (mark_is 40) s (Left n) → t ≡ last n s → ReadsAs (mark_is 41) t (Left m) → ReadsAsLevel 3 base_of s (Left m)
+  pub base_nothing : (t u : Bor (List ℕ)) → ReadsAs (mark_is 40) s (Some t) → ReadsAs (mark_is 41) t.now (Some u) → ReadsAsLevel 3 base_of s (Some u)
   unfolding past_of base_with
-  base_nothing n t m h e p = level 3 base_of s (Left m) (λ f l. choice _ _ _ s n t (Left m) h e (λ x. choice_ends _ _ _ t m p))
+  base_nothing t u h p = level 3 base_of s (Some u) (λ f l. choice _ _ _ s t (Some u) h (λ x. choice_ends _ _ _ t.now u p))
 
-  pub base_bad : (n : ℕ) (t : List ℕ) → ReadsAs (mark_is 40) s (Left n) → t ≡ last n s → ReadsAs (mark_is 41) t Bad → ReadsAsLevel 6 past_of t Bad → ReadsAsLevel 3 base_of s Bad
+  pub base_bad : (t : Bor (List ℕ)) → ReadsAs (mark_is 40) s (Some t) → ReadsAs (mark_is 41) t.now None → ReadsAsLevel 6 past_of t.now None → ReadsAsLevel 3 base_of s None
   unfolding past_of base_with
-  base_bad n t h e p i =
-      let a : length t < length s = part_shorter s t n h.shorter e in
-      level 3 base_of s Bad (λ f l. choice _ _ _ s n t Bad h e (λ x. choice_bad _ _ _ t Bad p (chain_bad _ _ t (at_depth _ _ _ _ f i (omega arith)))))
+  base_bad t h p i =
+      let a = part_shorter s t h.shorter in
+      level 3 base_of s None (λ f l. choice _ _ _ s t None h (λ x. choice_bad _ _ _ t.now None p (chain_bad _ _ t.now (at_depth _ _ _ _ f i (omega arith)))))
 
-  pub base_group : (n : ℕ) (t : List ℕ) (m : ℕ) (u : List ℕ) (r : Reading) → ReadsAs (mark_is 40) s (Left n) → t ≡ last n s → ReadsAs (mark_is 41) t Bad
-      → ReadsAsLevel 6 past_of t (Left m) → u ≡ last m t → ReadsAs (mark_is 41) u r → ReadsAsLevel 3 base_of s r
+  pub base_group : (t u : Bor (List ℕ)) (r : Answer) → ReadsAs (mark_is 40) s (Some t) → ReadsAs (mark_is 41) t.now None
+      → ReadsAsLevel 6 past_of t.now (Some u) → ReadsAs (mark_is 41) u.now r → ReadsAsLevel 3 base_of s r
   unfolding past_of base_with
-  base_group n t m u r h e p i q j =
-      let a : length t < length s = part_shorter s t n h.shorter e in
-      level 3 base_of s r (λ f l. choice _ _ _ s n t r h e (λ x. choice_bad _ _ _ t r p (chain _ _ t m u r (at_depth _ _ _ _ f i (omega arith)) q (λ y. mapped _ _ u r j))))
+  base_group t u r h p i j =
+      let a = part_shorter s t h.shorter in
+      level 3 base_of s r (λ f l. choice _ _ _ s t r h (λ x. choice_bad _ _ _ t.now r p (chain _ _ t.now u r (at_depth _ _ _ _ f i (omega arith)) (λ y. mapped _ _ u.now r j))))

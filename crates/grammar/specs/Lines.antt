@@ -1,6 +1,7 @@
 -- What a record's text says. Document 01, "The rule language".
 -- Assumes nothing.
-use Rattle.std.specs.Prelude.{◌≡◌, Bool, true, false, List, ℕ, length}
+use Rattle.std.specs.Prelude.{◌≡◌, Bool, true, false, List, ℕ, length, Some, None}
+use Rattle.std.specs.Prelude as prelude
 use Rattle.std.proofs.Math.Option.{Option, none, some}
 use Rattle.lexer.specs.Tokens.{tokens}
 use Rattle.grammar.specs.AsRead.{Line, role, rule, event}
@@ -8,8 +9,8 @@ use Rattle.grammar.specs.Spell.{spell_line}
 use Rattle.grammar.specs.Valid.{ValidLine}
 use Rattle.grammar.specs.Parsed.{wholly}
 use Rattle.grammar.specs.Parser.{role_of, rule_of, event_of, depth}
-use Rattle.grammar.specs.declared.lines.Kind.{Kind}
-use Rattle.grammar.specs.declared.lines.Kind.TheVariants.{Role, Rule, Neither}
+use Rattle.grammar.specs.declared.lines.LineKind.{LineKind}
+use Rattle.grammar.specs.declared.lines.LineKind.TheVariants.{Role, Rule}
 
 -- A text says a line: its tokens spell it. With no parser: this is what "in the language" means.
 pub record Says (s : List ℕ) (l : Line) : Type 0 where
@@ -41,9 +42,9 @@ read_line s = or_else (wholly (rule_of (depth (length s)) (tokens s))) (wholly (
 unfoldable pub read_event : List ℕ → Option Line
 read_event s = wholly (event_of (tokens s))
 
--- which kind of line it is
-abbrev pub kind_of_line : Option Line → Kind
-kind_of_line none = Neither
-kind_of_line (some (role w p)) = Role
-kind_of_line (some (rule w p t x)) = Rule
-kind_of_line (some (event ws)) = Neither
+-- which kind of line it is; None where it declares nothing
+abbrev pub kind_of_line : Option Line → prelude.Option LineKind
+kind_of_line none = None
+kind_of_line (some (role w p)) = Some Role
+kind_of_line (some (rule w p t x)) = Some Rule
+kind_of_line (some (event ws)) = None

@@ -1,66 +1,46 @@
-// What a reader answers, and the readers of one token.
+// The readers of one token. A reader answers what is left of the text after its form, or None where the text does not begin with it.
 ghost use Rattle.std.specs.Prelude.{◌≡◌};
+ghost use Rattle.lexer.specs.Words.{kind_number};
 ghost use Rattle.lexer.specs.Tokens.{tokens};
 ghost use Rattle.grammar.specs.Parsed.{mark_is, word_is, place_is, is_none};
 ghost use Rattle.grammar.specs.Readings.{ReadsAs};
 
-use lexer::words::ZERO;
+use lexer::words::WordKind;
 use lexer::{Lexeme, next};
 
-// What a reader finds: how many bytes are left unread, or that the text is not of its form.
-#[derive(Clone, Copy)]
-pub enum Reading {
-    Left(usize),
-    Bad,
-}
-
 // The mark b.
-pub fn mark_at(s: &[u8], b: u8) -> Reading
+pub fn mark_at(s: &[u8], b: u8) -> Option<&[u8]>
     ensures { ReadsAs (mark_is b) s.now result }
 {
-    match next(s) {
-        Lexeme::Mark(m, n) => {
-            if m == b {
-                Reading::Left(n)
-            } else {
-                Reading::Bad
-            }
-        }
-        _ => Reading::Bad,
+    let (token, left) = next(s)?;
+    match token {
+        Lexeme::Mark(mark) => (mark == b).then_some(left),
+        _ => None,
     }
 }
 
-// A word of the kind k.
-pub fn word_at(s: &[u8], k: u8) -> Reading
-    ensures { ReadsAs (word_is k) s.now result }
+// A word of a kind.
+pub fn word_at(s: &[u8], kind: WordKind) -> Option<&[u8]>
+    ensures { ReadsAs (word_is (kind_number kind)) s.now result }
 {
-    match next(s) {
-        Lexeme::Word(q, n) => {
-            if q == k {
-                Reading::Left(n)
-            } else {
-                Reading::Bad
-            }
-        }
-        _ => Reading::Bad,
+    let (token, left) = next(s)?;
+    match token {
+        Lexeme::Word(found, _) => (found == kind).then_some(left),
+        _ => None,
     }
 }
 
-// A place in an event: one of the digits 1 to 4, whose kinds follow that of 0.
-pub fn place_at(s: &[u8]) -> Reading
+// A place in an event: one of the digits 1 to 4.
+pub fn place_at(s: &[u8]) -> Option<&[u8]>
     ensures { ReadsAs place_is s.now result }
 {
-    match next(s) {
-        Lexeme::Word(q, n) => {
-            if q <= ZERO {
-                return Reading::Bad;
-            }
-            if ZERO + 4 < q {
-                return Reading::Bad;
-            }
-            Reading::Left(n)
-        }
-        _ => Reading::Bad,
+    let (token, left) = next(s)?;
+    let Lexeme::Word(kind, _) = token else {
+        return None;
+    };
+    match kind {
+        WordKind::Digit(digit) => (1..=4).contains(&digit).then_some(left),
+        _ => None,
     }
 }
 
@@ -68,8 +48,5 @@ pub fn place_at(s: &[u8]) -> Reading
 pub fn ends(s: &[u8]) -> bool
     ensures { result ≡ is_none (tokens s.now) }
 {
-    match next(s) {
-        Lexeme::End => true,
-        _ => false,
-    }
+    next(s).is_none()
 }

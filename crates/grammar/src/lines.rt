@@ -6,114 +6,80 @@ ghost use Rattle.grammar.specs.Parser.{role_of, head_of, tail_of, rule_of, depth
 ghost use Rattle.grammar.specs.Readings.{ReadsAs, ReadsAsLevel};
 ghost use Rattle.grammar.specs.Lines.{read_line, kind_of_line};
 
-use crate::leaves::{Reading, ends, mark_at, word_at};
+use crate::leaves::{ends, mark_at, word_at};
 use crate::pasts::past;
 use crate::patterns::pattern;
 use crate::responses::response;
-use lexer::rest;
-use lexer::words::{NAME, ROLE, RULE, UNDER};
+use lexer::words::WordKind;
 
-// What a line's text is.
-#[derive(Clone, Copy)]
-pub enum Kind {
+// What a line declares.
+#[derive(Clone, Copy, Debug, PartialEq, Eq)]
+pub enum LineKind {
     Role,
     Rule,
-    Neither,
 }
 
 // role, a name, under, a name.
-fn role(s: &[u8]) -> Reading
+fn role(s: &[u8]) -> Option<&[u8]>
     ensures { ReadsAs role_of s.now result }
 {
-    let Reading::Left(a) = word_at(s, ROLE) else {
-        return Reading::Bad;
-    };
-    let t = rest(s, a);
-    let Reading::Left(b) = word_at(t, NAME) else {
-        return Reading::Bad;
-    };
-    let u = rest(t, b);
-    let Reading::Left(c) = word_at(u, UNDER) else {
-        return Reading::Bad;
-    };
-    word_at(rest(u, c), NAME)
+    let name = word_at(s, WordKind::Role)?;
+    let under = word_at(name, WordKind::Name)?;
+    let parent = word_at(under, WordKind::Under)?;
+    word_at(parent, WordKind::Name)
 }
 
 // rule, a name, :.
-pub fn head(s: &[u8]) -> Reading
+pub fn head(s: &[u8]) -> Option<&[u8]>
     ensures { ReadsAs head_of s.now result }
 {
-    let Reading::Left(a) = word_at(s, RULE) else {
-        return Reading::Bad;
-    };
-    let t = rest(s, a);
-    let Reading::Left(b) = word_at(t, NAME) else {
-        return Reading::Bad;
-    };
-    mark_at(rest(t, b), b':')
+    let name = word_at(s, WordKind::Rule)?;
+    let colon = word_at(name, WordKind::Name)?;
+    mark_at(colon, b':')
 }
 
 // ; a pattern ; a response.
-fn tail(s: &[u8]) -> Reading
+fn tail(s: &[u8]) -> Option<&[u8]>
     ensures { ReadsAsLevel 2 tail_of s.now result }
 {
-    let Reading::Left(a) = mark_at(s, b';') else {
-        return Reading::Bad;
-    };
-    let t = rest(s, a);
-    let Reading::Left(b) = pattern(t) else {
-        return Reading::Bad;
-    };
-    let u = rest(t, b);
-    let Reading::Left(c) = mark_at(u, b';') else {
-        return Reading::Bad;
-    };
-    response(rest(u, c))
+    let trigger = mark_at(s, b';')?;
+    let semicolon = pattern(trigger)?;
+    let answer = mark_at(semicolon, b';')?;
+    response(answer)
 }
 
 // A rule line.
-fn rule(s: &[u8]) -> Reading
+fn rule(s: &[u8]) -> Option<&[u8]>
     ensures { ReadsAsLevel 6 rule_of s.now result }
 {
-    let Reading::Left(a) = head(s) else {
-        return Reading::Bad;
-    };
-    let t = rest(s, a);
-    let Reading::Left(b) = past(t) else {
-        return Reading::Bad;
-    };
-    tail(rest(t, b))
+    let body = head(s)?;
+    let trigger = past(body)?;
+    tail(trigger)
 }
 
 // Whether a text is a role line's.
 fn is_role(s: &[u8]) -> bool
     ensures { result ≡ whole (role_of (tokens s.now)) }
 {
-    match role(s) {
-        Reading::Left(n) => ends(rest(s, n)),
-        Reading::Bad => false,
-    }
+    role(s).is_some_and(ends)
 }
 
 // Whether a text is a rule line's.
 fn is_rule(s: &[u8]) -> bool
     ensures { result ≡ whole (rule_of (depth (length s.now)) (tokens s.now)) }
 {
-    match rule(s) {
-        Reading::Left(n) => ends(rest(s, n)),
-        Reading::Bad => false,
-    }
+    rule(s).is_some_and(ends)
 }
 
-// Which kind of line a text is.
-pub fn line_kind(s: &[u8]) -> Kind
+// What a text declares; None where it is no line.
+pub fn line_kind(s: &[u8]) -> Option<LineKind>
     ensures { result ≡ kind_of_line (read_line s.now) }
 {
     if is_rule(s) {
-        return Kind::Rule;
+        return Some(LineKind::Rule);
     }
     if is_role(s) {
-        return Kind::Role;
+        return Some(LineKind::Role);
     }
-    Kind::Neither
+    None
 }

@@ -2,107 +2,85 @@
 ghost use Rattle.grammar.specs.Parser.{item_of, open_of, items_of, simple_of, condition_of, term_of, pattern_of};
 ghost use Rattle.grammar.specs.Readings.{ReadsAs, ReadsAsLevel};
 
-use crate::leaves::{Reading, mark_at, word_at};
-use lexer::rest;
-use lexer::words::{ANY, NAME, NOT, OR};
+use crate::leaves::{mark_at, word_at};
+use lexer::words::WordKind;
 
 // A name, or + and a name.
-fn item(s: &[u8]) -> Reading
+fn item(s: &[u8]) -> Option<&[u8]>
     ensures { ReadsAs item_of s.now result }
 {
-    match mark_at(s, b'+') {
-        Reading::Left(n) => word_at(rest(s, n), NAME),
-        Reading::Bad => word_at(s, NAME),
-    }
+    let name = mark_at(s, b'+').unwrap_or(s);
+    word_at(name, WordKind::Name)
 }
 
 // * and >.
-fn open_end(s: &[u8]) -> Reading
+fn open_end(s: &[u8]) -> Option<&[u8]>
     ensures { ReadsAs open_of s.now result }
 {
-    match mark_at(s, b'*') {
-        Reading::Left(n) => mark_at(rest(s, n), b'>'),
-        Reading::Bad => Reading::Bad,
-    }
+    let t = mark_at(s, b'*')?;
+    mark_at(t, b'>')
 }
 
 // At most k items, an optional *, and >.
-fn items(s: &[u8], k: usize) -> Reading
+fn items(s: &[u8], k: usize) -> Option<&[u8]>
     ensures { ReadsAs (items_of k) s.now result }
 {
-    match mark_at(s, b'>') {
-        Reading::Left(n) => Reading::Left(n),
-        Reading::Bad => {
-            if k == 0 {
-                return open_end(s);
-            }
-            match item(s) {
-                Reading::Left(n) => items(rest(s, n), k - 1),
-                Reading::Bad => open_end(s),
-            }
-        }
+    if let Some(t) = mark_at(s, b'>') {
+        return Some(t);
+    }
+    if k == 0 {
+        return open_end(s);
+    }
+    match item(s) {
+        Some(t) => items(t, k - 1),
+        None => open_end(s),
     }
 }
 
 // A simple pattern.
-fn simple(s: &[u8]) -> Reading
+fn simple(s: &[u8]) -> Option<&[u8]>
     ensures { ReadsAs simple_of s.now result }
 {
     match mark_at(s, b'<') {
-        Reading::Left(n) => items(rest(s, n), 4),
-        Reading::Bad => word_at(s, ANY),
+        Some(t) => items(t, 4),
+        None => word_at(s, WordKind::Any),
     }
 }
 
 // A condition: terms joined by or.
 #[cycle(condition_term)]
-fn condition(s: &[u8]) -> Reading
+fn condition(s: &[u8]) -> Option<&[u8]>
     ensures { ReadsAsLevel 1 condition_of s.now result }
 {
-    match term(s) {
-        Reading::Left(n) => {
-            let t = rest(s, n);
-            match word_at(t, OR) {
-                Reading::Left(m) => condition(rest(t, m)),
-                Reading::Bad => Reading::Left(n),
-            }
-        }
-        Reading::Bad => Reading::Bad,
+    let t = term(s)?;
+    match word_at(t, WordKind::Or) {
+        Some(u) => condition(u),
+        None => Some(t),
     }
 }
 
 // A term of a condition.
 #[cycle(condition_term)]
-fn term(s: &[u8]) -> Reading
+fn term(s: &[u8]) -> Option<&[u8]>
     ensures { ReadsAsLevel 0 term_of s.now result }
 {
-    match word_at(s, NOT) {
-        Reading::Left(n) => term(rest(s, n)),
-        Reading::Bad => match mark_at(s, b'(') {
-            Reading::Left(n) => {
-                let t = rest(s, n);
-                match condition(t) {
-                    Reading::Left(m) => mark_at(rest(t, m), b')'),
-                    Reading::Bad => Reading::Bad,
-                }
-            }
-            Reading::Bad => simple(s),
-        },
+    if let Some(t) = word_at(s, WordKind::Not) {
+        return term(t);
     }
+    let Some(t) = mark_at(s, b'(') else {
+        return simple(s);
+    };
+    let u = condition(t)?;
+    mark_at(u, b')')
 }
 
 // A pattern.
-pub fn pattern(s: &[u8]) -> Reading
+pub fn pattern(s: &[u8]) -> Option<&[u8]>
     ensures { ReadsAsLevel 2 pattern_of s.now result }
 {
-    match mark_at(s, b'[') {
-        Reading::Left(n) => {
-            let t = rest(s, n);
-            match condition(t) {
-                Reading::Left(m) => mark_at(rest(t, m), b']'),
-                Reading::Bad => Reading::Bad,
-            }
-        }
-        Reading::Bad => simple(s),
-    }
+    let Some(t) = mark_at(s, b'[') else {
+        return simple(s);
+    };
+    let u = condition(t)?;
+    mark_at(u, b']')
 }

@@ -2,63 +2,54 @@
 ghost use Rattle.grammar.specs.Parser.{slot_of, slots_of, template_of, response_of};
 ghost use Rattle.grammar.specs.Readings.{ReadsAs};
 
-use crate::leaves::{Reading, mark_at, place_at, word_at};
-use lexer::rest;
-use lexer::words::{ANEW, HOLD, NAME, PASS, SEND};
+use crate::leaves::{mark_at, place_at, word_at};
+use lexer::words::WordKind;
 
 // A name, or # and a place.
-fn slot(s: &[u8]) -> Reading
+fn slot(s: &[u8]) -> Option<&[u8]>
     ensures { ReadsAs slot_of s.now result }
 {
     match mark_at(s, b'#') {
-        Reading::Left(n) => place_at(rest(s, n)),
-        Reading::Bad => word_at(s, NAME),
+        Some(t) => place_at(t),
+        None => word_at(s, WordKind::Name),
     }
 }
 
 // At most k slots, and >.
-fn slots(s: &[u8], k: usize) -> Reading
+fn slots(s: &[u8], k: usize) -> Option<&[u8]>
     ensures { ReadsAs (slots_of k) s.now result }
 {
-    match mark_at(s, b'>') {
-        Reading::Left(n) => Reading::Left(n),
-        Reading::Bad => {
-            if k == 0 {
-                return Reading::Bad;
-            }
-            match slot(s) {
-                Reading::Left(n) => slots(rest(s, n), k - 1),
-                Reading::Bad => Reading::Bad,
-            }
-        }
+    if let Some(t) = mark_at(s, b'>') {
+        return Some(t);
     }
+    if k == 0 {
+        return None;
+    }
+    let t = slot(s)?;
+    slots(t, k - 1)
 }
 
 // A template.
-fn template(s: &[u8]) -> Reading
+fn template(s: &[u8]) -> Option<&[u8]>
     ensures { ReadsAs template_of s.now result }
 {
-    match mark_at(s, b'<') {
-        Reading::Left(n) => slots(rest(s, n), 4),
-        Reading::Bad => Reading::Bad,
-    }
+    let t = mark_at(s, b'<')?;
+    slots(t, 4)
 }
 
 // A response.
-pub fn response(s: &[u8]) -> Reading
+pub fn response(s: &[u8]) -> Option<&[u8]>
     ensures { ReadsAs response_of s.now result }
 {
-    if let Reading::Left(n) = word_at(s, PASS) {
-        return Reading::Left(n);
+    if let Some(t) = word_at(s, WordKind::Pass) {
+        return Some(t);
     }
-    if let Reading::Left(n) = word_at(s, HOLD) {
-        return Reading::Left(n);
+    if let Some(t) = word_at(s, WordKind::Hold) {
+        return Some(t);
     }
-    if let Reading::Left(n) = word_at(s, SEND) {
-        return template(rest(s, n));
+    if let Some(t) = word_at(s, WordKind::Send) {
+        return template(t);
     }
-    match word_at(s, ANEW) {
-        Reading::Left(n) => template(rest(s, n)),
-        Reading::Bad => Reading::Bad,
-    }
+    let t = word_at(s, WordKind::Anew)?;
+    template(t)
 }

@@ -1,16 +1,14 @@
--- `mark_at` answers as the parser of one mark does: that mark, another mark, or no mark.
-use Rattle.lexer.proofs.NextLaws.{next_means}
-use Rattle.grammar.proofs.LeafLaws.{mark-yes, mark-no, mark-none}
+use Rattle.std.proofs.Common.{refl}
+use Rattle.grammar.specs.Parsed.{mark_is}
+use Rattle.grammar.proofs.LeafLaws.{no_token, mark-read, mark-other}
 use Rattle.grammar.proofs.leaves.mark_at.Goals as goal
 
-pub returns-then-m-b : goal.returns-then-m-b
-returns-then-m-b c =
-    mark-yes _ _ _ _ (next_means _ _ (rw c.in-Mark.is at c.next.ensures)) c.if-m-b.true
+pub returns-in_err-token : goal.returns-in_err-token
+unfolding mark_is
+returns-in_err-token c = rw c.from_residual.ensures (no_token _ (mark_is c.args.b) c.in_err-token.ensures refl)
 
-pub returns-else-m-b : goal.returns-else-m-b
-returns-else-m-b c =
-    mark-no _ _ _ _ (next_means _ _ (rw c.in-Mark.is at c.next.ensures)) c.if-m-b.false
+pub returns-in-Mark : goal.returns-in-Mark
+returns-in-Mark c = rw c.then_some.ensures (mark-read _ _ _ _ (rw c.in-Mark.is at c.in_ok-token.ensures))
 
 pub returns-in_default : goal.returns-in_default
-returns-in_default c =
-    mark-none _ _ c.next.result (next_means _ _ c.next.ensures) c.in_default.not-Mark
+returns-in_default c = mark-other _ _ _ _ c.in_ok-token.ensures c.in_default.not-Mark

@@ -1,20 +1,20 @@
--- `place_at` answers as the parser of a place does: a digit from 1 to 4, a word of a lower or a higher kind, or no word.
-use Rattle.lexer.proofs.NextLaws.{next_means}
-use Rattle.grammar.proofs.LeafLaws.{place-yes, place_low, place_high, place_none}
+use Rattle.std.proofs.Common.{refl, ◌≡◌, ◌&&◌, leb, rules}
+use Rattle.grammar.specs.Parsed.{place_is}
+use Rattle.grammar.proofs.LeafLaws.{no_token, place-digit, place-word, place-other}
 use Rattle.grammar.proofs.leaves.place_at.Goals as goal
 
-pub returns-then-q-le-ZERO : goal.returns-then-q-le-ZERO
-returns-then-q-le-ZERO c =
-    place_low _ _ _ (next_means _ _ (rw c.in-Word.is at c.next.ensures)) c.if-q-le-ZERO.true
-
-pub returns-then-q : goal.returns-then-q
-returns-then-q c =
-    place_high _ _ _ (next_means _ _ (rw c.in-Word.is at c.next.ensures)) c.if-q-le-ZERO.false c.if-q.true
-
-pub returns-else-q : goal.returns-else-q
-returns-else-q c =
-    place-yes _ _ _ (next_means _ _ (rw c.in-Word.is at c.next.ensures)) c.if-q-le-ZERO.false c.if-q.false
+pub returns-in_err-token : goal.returns-in_err-token
+unfolding place_is
+returns-in_err-token c = rw c.from_residual.ensures (no_token _ place_is c.in_err-token.ensures refl)
 
 pub returns-in_default : goal.returns-in_default
-returns-in_default c =
-    place_none _ c.next.result (next_means _ _ c.next.ensures) c.in_default.not-Word
+returns-in_default c = place-other _ _ _ c.in_ok-token.ensures c.in_default.not-Word
+
+pub returns-in-Digit : goal.returns-in-Digit
+returns-in-Digit c =
+    let d = c.in-Digit.digit in
+    let e : c.contains.result ≡ (leb 1 d && leb d 4) = search rules in
+    rw (c.then_some.ensures, e) (place-digit _ _ _ _ (rw (c.in-Digit.is) at (rw c.in-Word.is at c.in_ok-token.ensures)))
+
+pub returns-in_default-kind : goal.returns-in_default-kind
+returns-in_default-kind c = place-word _ _ _ _ (rw c.in-Word.is at c.in_ok-token.ensures) c.in_default-kind.not-Digit

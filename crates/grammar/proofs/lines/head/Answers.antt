@@ -1,18 +1,17 @@
 -- `head` answers as the parser of a rule line's head does, one reader after another.
-use Rattle.grammar.proofs.LevelLaws.{chain, chain_bad, mapped}
+use Rattle.lexer.specs.Words.{kind_number}
 use Rattle.grammar.specs.Parser.{head_of}
+use Rattle.grammar.proofs.LevelLaws.{chain, chain_bad, mapped}
 use Rattle.grammar.proofs.lines.head.Goals as goal
 
-pub returns-in_default : goal.returns-in_default
-unfolding head_of
-returns-in_default c = chain_bad _ _ _ (rw c.in_default.is at c.word_at.ensures)
+pub returns-in_err-name : goal.returns-in_err-name
+unfolding head_of kind_number
+returns-in_err-name c = rw c.from_residual.ensures (chain_bad _ _ _ c.in_err-name.ensures)
 
-pub returns-in_default-word_at : goal.returns-in_default-word_at
-unfolding head_of
-returns-in_default-word_at c =
-    chain _ _ _ _ _ _ (rw c.in-Left.is at c.word_at.ensures) c.rest-t.ensures (λ _. chain_bad _ _ _ (rw c.in_default-word_at.is at c.word_at-2.ensures))
+pub returns-in_err-colon : goal.returns-in_err-colon
+unfolding head_of kind_number
+returns-in_err-colon c = rw c.from_residual-in_err-colon.ensures (chain _ _ _ _ _ c.in_ok-name.ensures (λ _. chain_bad _ _ _ c.in_err-colon.ensures))
 
 pub returns : goal.returns
-unfolding head_of
-returns c =
-    chain _ _ _ _ _ _ (rw c.in-Left.is at c.word_at.ensures) c.rest-t.ensures (λ _. chain _ _ _ _ _ _ (rw c.in-Left-word_at.is at c.word_at-2.ensures) c.rest.ensures (λ _. mapped _ _ _ _ c.mark_at.ensures))
+unfolding head_of kind_number
+returns c = chain _ _ _ _ _ c.in_ok-name.ensures (λ _. chain _ _ _ _ _ c.in_ok-colon.ensures (λ _. mapped _ _ _ _ c.mark_at.ensures))

@@ -1,5 +1,5 @@
 -- `line_kind` answers which kind of line the text says: a rule line, else a role line, else neither.
-use mathlib.Core.Path.{sym, ◌∙◌}
+use Rattle.std.proofs.Common.{sym, ◌∙◌}
 use Rattle.grammar.proofs.Shapes.{kind-rule, kind-role, kind_neither}
 use Rattle.grammar.proofs.lines.line_kind.Goals as goal
 

@@ -2,13 +2,11 @@
 use Rattle.grammar.proofs.LevelPatterns.{pattern-plain, pattern_bad, pattern-bracketed}
 use Rattle.grammar.proofs.patterns.pattern.Goals as goal
 
-pub returns-in-Left-condition : goal.returns-in-Left-condition
-returns-in-Left-condition c =
-    pattern-bracketed _ _ _ _ _ _ (rw c.in-Left.is at c.mark_at.ensures) c.rest-t.ensures (rw c.in-Left-condition.is at c.condition.ensures) c.rest.ensures c.mark_at-in-Left-condition.ensures
+pub returns-in_default : goal.returns-in_default
+returns-in_default c = pattern-plain _ _ c.in_default.ensures c.simple.ensures
 
-pub returns-in-Bad-condition : goal.returns-in-Bad-condition
-returns-in-Bad-condition c =
-    pattern_bad _ _ _ (rw c.in-Left.is at c.mark_at.ensures) c.rest-t.ensures (rw c.in-Bad-condition.is at c.condition.ensures)
+pub returns-in_err-u : goal.returns-in_err-u
+returns-in_err-u c = rw c.from_residual.ensures (pattern_bad _ _ c.in-Some.ensures c.in_err-u.ensures)
 
-pub returns-in-Bad : goal.returns-in-Bad
-returns-in-Bad c = pattern-plain _ _ (rw c.in-Bad.is at c.mark_at.ensures) c.simple.ensures
+pub returns : goal.returns
+returns c = pattern-bracketed _ _ _ _ c.in-Some.ensures c.in_ok-u.ensures c.mark_at-2.ensures

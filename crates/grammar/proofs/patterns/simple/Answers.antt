@@ -1,10 +1,11 @@
 -- `simple` answers as its parser does: items after <, or the word any.
+use Rattle.lexer.specs.Words.{kind_number}
 use Rattle.grammar.proofs.LevelPatterns.{simple-items, simple_any}
 use Rattle.grammar.proofs.patterns.simple.Goals as goal
 
-pub returns-in-Left : goal.returns-in-Left
-returns-in-Left c =
-    simple-items _ _ _ c.items.result (rw c.in-Left.is at c.mark_at.ensures) c.rest.ensures c.items.ensures
+pub returns-in-Some : goal.returns-in-Some
+returns-in-Some c = simple-items _ _ _ c.in-Some.ensures c.items.ensures
 
-pub returns-in-Bad : goal.returns-in-Bad
-returns-in-Bad c = simple_any _ c.word_at.result (rw c.in-Bad.is at c.mark_at.ensures) c.word_at.ensures
+pub returns-in-None : goal.returns-in-None
+unfolding kind_number
+returns-in-None c = simple_any _ _ c.in-None.ensures c.word_at.ensures

@@ -1,10 +1,11 @@
 -- `slot` answers as its parser does: a place after #, or a name.
+use Rattle.lexer.specs.Words.{kind_number}
 use Rattle.grammar.proofs.LevelResponses.{slot_place, slot_named}
 use Rattle.grammar.proofs.responses.slot.Goals as goal
 
-pub returns-in-Left : goal.returns-in-Left
-returns-in-Left c =
-    slot_place _ _ _ c.place_at.result (rw c.in-Left.is at c.mark_at.ensures) c.rest.ensures c.place_at.ensures
+pub returns-in-Some : goal.returns-in-Some
+returns-in-Some c = slot_place _ _ _ c.in-Some.ensures c.place_at.ensures
 
-pub returns-in-Bad : goal.returns-in-Bad
-returns-in-Bad c = slot_named _ c.word_at.result (rw c.in-Bad.is at c.mark_at.ensures) c.word_at.ensures
+pub returns-in-None : goal.returns-in-None
+unfolding kind_number
+returns-in-None c = slot_named _ _ c.in-None.ensures c.word_at.ensures

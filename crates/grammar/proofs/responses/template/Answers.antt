@@ -2,9 +2,8 @@
 use Rattle.grammar.proofs.LevelResponses.{template-yes, template-no}
 use Rattle.grammar.proofs.responses.template.Goals as goal
 
-pub returns-in-Left : goal.returns-in-Left
-returns-in-Left c =
-    template-yes _ _ _ c.slots.result (rw c.in-Left.is at c.mark_at.ensures) c.rest.ensures c.slots.ensures
+pub returns-in_err-t : goal.returns-in_err-t
+returns-in_err-t c = rw c.from_residual.ensures (template-no _ c.in_err-t.ensures)
 
-pub returns-in-Bad : goal.returns-in-Bad
-returns-in-Bad c = template-no _ (rw c.in-Bad.is at c.mark_at.ensures)
+pub returns : goal.returns
+returns c = template-yes _ _ _ c.in_ok-t.ensures c.slots.ensures
