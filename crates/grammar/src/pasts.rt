@@ -14,7 +14,7 @@ fn stars(s: &[u8]) -> &[u8]
     ensures { StarsPassed s.now result.now }
 {
     match mark_at(s, b'*') {
-        Some(t) => stars(t),
+        Some(left) => stars(left),
         None => s,
     }
 }
@@ -38,10 +38,10 @@ fn factor_begins(s: &[u8]) -> bool
 pub fn past(s: &[u8]) -> Option<&[u8]>
     ensures { ReadsAsLevel 6 past_of s.now result }
 {
-    let t = sequence(s)?;
-    match mark_at(t, b'+') {
-        Some(u) => past(u),
-        None => Some(t),
+    let left = sequence(s)?;
+    match mark_at(left, b'+') {
+        Some(more) => past(more),
+        None => Some(left),
     }
 }
 
@@ -50,11 +50,11 @@ pub fn past(s: &[u8]) -> Option<&[u8]>
 fn sequence(s: &[u8]) -> Option<&[u8]>
     ensures { ReadsAsLevel 5 sequence_of s.now result }
 {
-    let t = factor(s)?;
-    if factor_begins(t) {
-        sequence(t)
+    let left = factor(s)?;
+    if factor_begins(left) {
+        sequence(left)
     } else {
-        Some(t)
+        Some(left)
     }
 }
 
@@ -63,8 +63,8 @@ fn sequence(s: &[u8]) -> Option<&[u8]>
 fn factor(s: &[u8]) -> Option<&[u8]>
     ensures { ReadsAsLevel 4 factor_of s.now result }
 {
-    let t = base(s)?;
-    Some(stars(t))
+    let left = base(s)?;
+    Some(stars(left))
 }
 
 // A base: a pattern, (), or a past in round brackets.
@@ -72,12 +72,12 @@ fn factor(s: &[u8]) -> Option<&[u8]>
 fn base(s: &[u8]) -> Option<&[u8]>
     ensures { ReadsAsLevel 3 base_of s.now result }
 {
-    let Some(t) = mark_at(s, b'(') else {
+    let Some(inside) = mark_at(s, b'(') else {
         return pattern(s);
     };
-    if let Some(u) = mark_at(t, b')') {
-        return Some(u);
+    if let Some(left) = mark_at(inside, b')') {
+        return Some(left);
     }
-    let u = past(t)?;
-    mark_at(u, b')')
+    let close = past(inside)?;
+    mark_at(close, b')')
 }

@@ -17,22 +17,22 @@ fn item(s: &[u8]) -> Option<&[u8]>
 fn open_end(s: &[u8]) -> Option<&[u8]>
     ensures { ReadsAs open_of s.now result }
 {
-    let t = mark_at(s, b'*')?;
-    mark_at(t, b'>')
+    let close = mark_at(s, b'*')?;
+    mark_at(close, b'>')
 }
 
 // At most k items, an optional *, and >.
 fn items(s: &[u8], k: usize) -> Option<&[u8]>
     ensures { ReadsAs (items_of k) s.now result }
 {
-    if let Some(t) = mark_at(s, b'>') {
-        return Some(t);
+    if let Some(left) = mark_at(s, b'>') {
+        return Some(left);
     }
     if k == 0 {
         return open_end(s);
     }
     match item(s) {
-        Some(t) => items(t, k - 1),
+        Some(left) => items(left, k - 1),
         None => open_end(s),
     }
 }
@@ -42,7 +42,7 @@ fn simple(s: &[u8]) -> Option<&[u8]>
     ensures { ReadsAs simple_of s.now result }
 {
     match mark_at(s, b'<') {
-        Some(t) => items(t, 4),
+        Some(left) => items(left, 4),
         None => word_at(s, WordKind::Any),
     }
 }
@@ -52,10 +52,10 @@ fn simple(s: &[u8]) -> Option<&[u8]>
 fn condition(s: &[u8]) -> Option<&[u8]>
     ensures { ReadsAsLevel 1 condition_of s.now result }
 {
-    let t = term(s)?;
-    match word_at(t, WordKind::Or) {
-        Some(u) => condition(u),
-        None => Some(t),
+    let left = term(s)?;
+    match word_at(left, WordKind::Or) {
+        Some(more) => condition(more),
+        None => Some(left),
     }
 }
 
@@ -64,23 +64,23 @@ fn condition(s: &[u8]) -> Option<&[u8]>
 fn term(s: &[u8]) -> Option<&[u8]>
     ensures { ReadsAsLevel 0 term_of s.now result }
 {
-    if let Some(t) = word_at(s, WordKind::Not) {
-        return term(t);
+    if let Some(left) = word_at(s, WordKind::Not) {
+        return term(left);
     }
-    let Some(t) = mark_at(s, b'(') else {
+    let Some(inside) = mark_at(s, b'(') else {
         return simple(s);
     };
-    let u = condition(t)?;
-    mark_at(u, b')')
+    let close = condition(inside)?;
+    mark_at(close, b')')
 }
 
 // A pattern.
 pub fn pattern(s: &[u8]) -> Option<&[u8]>
     ensures { ReadsAsLevel 2 pattern_of s.now result }
 {
-    let Some(t) = mark_at(s, b'[') else {
+    let Some(inside) = mark_at(s, b'[') else {
         return simple(s);
     };
-    let u = condition(t)?;
-    mark_at(u, b']')
+    let close = condition(inside)?;
+    mark_at(close, b']')
 }

@@ -10,7 +10,7 @@ fn slot(s: &[u8]) -> Option<&[u8]>
     ensures { ReadsAs slot_of s.now result }
 {
     match mark_at(s, b'#') {
-        Some(t) => place_at(t),
+        Some(place) => place_at(place),
         None => word_at(s, WordKind::Name),
     }
 }
@@ -19,37 +19,37 @@ fn slot(s: &[u8]) -> Option<&[u8]>
 fn slots(s: &[u8], k: usize) -> Option<&[u8]>
     ensures { ReadsAs (slots_of k) s.now result }
 {
-    if let Some(t) = mark_at(s, b'>') {
-        return Some(t);
+    if let Some(left) = mark_at(s, b'>') {
+        return Some(left);
     }
     if k == 0 {
         return None;
     }
-    let t = slot(s)?;
-    slots(t, k - 1)
+    let left = slot(s)?;
+    slots(left, k - 1)
 }
 
 // A template.
 fn template(s: &[u8]) -> Option<&[u8]>
     ensures { ReadsAs template_of s.now result }
 {
-    let t = mark_at(s, b'<')?;
-    slots(t, 4)
+    let left = mark_at(s, b'<')?;
+    slots(left, 4)
 }
 
 // A response.
 pub fn response(s: &[u8]) -> Option<&[u8]>
     ensures { ReadsAs response_of s.now result }
 {
-    if let Some(t) = word_at(s, WordKind::Pass) {
-        return Some(t);
+    if let Some(left) = word_at(s, WordKind::Pass) {
+        return Some(left);
     }
-    if let Some(t) = word_at(s, WordKind::Hold) {
-        return Some(t);
+    if let Some(left) = word_at(s, WordKind::Hold) {
+        return Some(left);
     }
-    if let Some(t) = word_at(s, WordKind::Send) {
-        return template(t);
+    if let Some(left) = word_at(s, WordKind::Send) {
+        return template(left);
     }
-    let t = word_at(s, WordKind::Anew)?;
-    template(t)
+    let left = word_at(s, WordKind::Anew)?;
+    template(left)
 }

@@ -15,43 +15,43 @@ base-returns-in_default t c = base_pattern _ _ c.in_default.ensures c.pattern.en
 pub base-returns-in-Some-mark_at : goal.base-returns-in-Some-mark_at
 base-returns-in-Some-mark_at t c = base_nothing _ _ _ c.in-Some.ensures c.in-Some-mark_at.ensures
 
-pub base-returns-in_err-u : goal.base-returns-in_err-u
-base-returns-in_err-u t c = rw c.from_residual.ensures (base_bad _ _ c.in-Some.ensures c.in_default-mark_at.ensures c.in_err-u.ensures)
+pub base-returns-in_err-close : goal.base-returns-in_err-close
+base-returns-in_err-close t c = rw c.from_residual.ensures (base_bad _ _ c.in-Some.ensures c.in_default-mark_at.ensures c.in_err-close.ensures)
 
 pub base-returns : goal.base-returns
-base-returns t c = base_group _ _ _ _ c.in-Some.ensures c.in_default-mark_at.ensures c.in_ok-u.ensures c.mark_at-3.ensures
+base-returns t c = base_group _ _ _ _ c.in-Some.ensures c.in_default-mark_at.ensures c.in_ok-close.ensures c.mark_at-3.ensures
 
-pub factor-returns-in_err-t : goal.factor-returns-in_err-t
-factor-returns-in_err-t t c = rw c.from_residual.ensures (factor_bad _ c.in_err-t.ensures)
+pub factor-returns-in_err-left : goal.factor-returns-in_err-left
+factor-returns-in_err-left t c = rw c.from_residual.ensures (factor_bad _ c.in_err-left.ensures)
 
 pub factor-returns : goal.factor-returns
-factor-returns t c = factor_stars _ _ _ c.in_ok-t.ensures c.stars.ensures
+factor-returns t c = factor_stars _ _ _ c.in_ok-left.ensures c.stars.ensures
 
 pub past-past-requires : goal.past-past-requires
 past-past-requires t c =
-    let a = part_shorter _ _ c.in_ok-t.ensures.shorter in
+    let a = part_shorter _ _ c.in_ok-left.ensures.shorter in
     let b = part_shorter _ _ c.in-Some.ensures.shorter in
     omega arith
 
-pub past-returns-in_err-t : goal.past-returns-in_err-t
-past-returns-in_err-t t c = rw c.from_residual.ensures (past_bad _ c.in_err-t.ensures)
+pub past-returns-in_err-left : goal.past-returns-in_err-left
+past-returns-in_err-left t c = rw c.from_residual.ensures (past_bad _ c.in_err-left.ensures)
 
 pub past-returns-in-Some : goal.past-returns-in-Some
-past-returns-in-Some t c = past-either _ _ _ _ c.in_ok-t.ensures c.in-Some.ensures c.past.ensures
+past-returns-in-Some t c = past-either _ _ _ _ c.in_ok-left.ensures c.in-Some.ensures c.past.ensures
 
 pub past-returns-in-None : goal.past-returns-in-None
-past-returns-in-None t c = past-only _ _ c.in_ok-t.ensures c.in-None.ensures
+past-returns-in-None t c = past-only _ _ c.in_ok-left.ensures c.in-None.ensures
 
 pub sequence-sequence-requires : goal.sequence-sequence-requires
 sequence-sequence-requires t c =
-    let a = part_shorter _ _ c.in_ok-t.ensures.shorter in
+    let a = part_shorter _ _ c.in_ok-left.ensures.shorter in
     omega arith
 
-pub sequence-returns-in_err-t : goal.sequence-returns-in_err-t
-sequence-returns-in_err-t t c = rw c.from_residual.ensures (sequence_bad _ c.in_err-t.ensures)
+pub sequence-returns-in_err-left : goal.sequence-returns-in_err-left
+sequence-returns-in_err-left t c = rw c.from_residual.ensures (sequence_bad _ c.in_err-left.ensures)
 
 pub sequence-returns-then-factor_begins : goal.sequence-returns-then-factor_begins
-sequence-returns-then-factor_begins t c = sequence_beside _ _ _ c.in_ok-t.ensures (sym c.factor_begins.ensures ∙ c.if-factor_begins.true) c.sequence.ensures
+sequence-returns-then-factor_begins t c = sequence_beside _ _ _ c.in_ok-left.ensures (sym c.factor_begins.ensures ∙ c.if-factor_begins.true) c.sequence.ensures
 
 pub sequence-returns-else-factor_begins : goal.sequence-returns-else-factor_begins
-sequence-returns-else-factor_begins t c = sequence_single _ _ c.in_ok-t.ensures (sym c.factor_begins.ensures ∙ c.if-factor_begins.false)
+sequence-returns-else-factor_begins t c = sequence_single _ _ c.in_ok-left.ensures (sym c.factor_begins.ensures ∙ c.if-factor_begins.false)

@@ -7,20 +7,20 @@ use Rattle.grammar.proofs.patterns.+condition_term.Goals as goal
 
 pub condition-condition-requires : goal.condition-condition-requires
 condition-condition-requires t c =
-    let a = part_shorter _ _ c.in_ok-t.ensures.shorter in
+    let a = part_shorter _ _ c.in_ok-left.ensures.shorter in
     let b = part_shorter _ _ c.in-Some.ensures.shorter in
     omega arith
 
-pub condition-returns-in_err-t : goal.condition-returns-in_err-t
-condition-returns-in_err-t t c = rw c.from_residual.ensures (condition_bad _ c.in_err-t.ensures)
+pub condition-returns-in_err-left : goal.condition-returns-in_err-left
+condition-returns-in_err-left t c = rw c.from_residual.ensures (condition_bad _ c.in_err-left.ensures)
 
 pub condition-returns-in-Some : goal.condition-returns-in-Some
 unfolding kind_number
-condition-returns-in-Some t c = condition_or _ _ _ _ c.in_ok-t.ensures c.in-Some.ensures c.condition.ensures
+condition-returns-in-Some t c = condition_or _ _ _ _ c.in_ok-left.ensures c.in-Some.ensures c.condition.ensures
 
 pub condition-returns-in-None : goal.condition-returns-in-None
 unfolding kind_number
-condition-returns-in-None t c = condition_term _ _ c.in_ok-t.ensures c.in-None.ensures
+condition-returns-in-None t c = condition_term _ _ c.in_ok-left.ensures c.in-None.ensures
 
 pub term-term-requires : goal.term-term-requires
 term-term-requires t c =
@@ -40,10 +40,10 @@ pub term-returns-in_default-mark_at : goal.term-returns-in_default-mark_at
 unfolding kind_number
 term-returns-in_default-mark_at t c = term-simple _ _ c.in_default.ensures c.in_default-mark_at.ensures c.simple.ensures
 
-pub term-returns-in_err-u : goal.term-returns-in_err-u
+pub term-returns-in_err-close : goal.term-returns-in_err-close
 unfolding kind_number
-term-returns-in_err-u t c = rw c.from_residual.ensures (term_bad _ _ c.in_default.ensures c.in-Some-mark_at.ensures c.in_err-u.ensures)
+term-returns-in_err-close t c = rw c.from_residual.ensures (term_bad _ _ c.in_default.ensures c.in-Some-mark_at.ensures c.in_err-close.ensures)
 
 pub term-returns : goal.term-returns
 unfolding kind_number
-term-returns t c = term-inside _ _ _ _ c.in_default.ensures c.in-Some-mark_at.ensures c.in_ok-u.ensures c.mark_at-2.ensures
+term-returns t c = term-inside _ _ _ _ c.in_default.ensures c.in-Some-mark_at.ensures c.in_ok-close.ensures c.mark_at-2.ensures

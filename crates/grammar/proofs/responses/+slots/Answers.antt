@@ -8,8 +8,8 @@ returns-in-Some t c = slots_close _ _ _ c.in-Some.ensures
 pub returns-then-k-eq0 : goal.returns-then-k-eq0
 returns-then-k-eq0 t c = slots_full _ _ c.if-k-eq0.true c.in_default.ensures
 
-pub returns-in_err-t : goal.returns-in_err-t
-returns-in_err-t t c = rw c.from_residual.ensures (slots_bad _ _ c.if-k-eq0.false c.in_default.ensures c.in_err-t.ensures)
+pub returns-in_err-left : goal.returns-in_err-left
+returns-in_err-left t c = rw c.from_residual.ensures (slots_bad _ _ c.if-k-eq0.false c.in_default.ensures c.in_err-left.ensures)
 
 pub returns : goal.returns
-returns t c = slots_more _ _ _ _ c.if-k-eq0.false c.in_default.ensures c.in_ok-t.ensures c.slots.ensures
+returns t c = slots_more _ _ _ _ c.if-k-eq0.false c.in_default.ensures c.in_ok-left.ensures c.slots.ensures

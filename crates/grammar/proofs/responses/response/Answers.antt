@@ -15,10 +15,10 @@ pub returns-in-Some-word_at-2 : goal.returns-in-Some-word_at-2
 unfolding kind_number
 returns-in-Some-word_at-2 c = response-send _ _ _ c.in_default.ensures c.in_default-word_at.ensures c.in-Some-word_at-2.ensures c.template.ensures
 
-pub returns-in_err-t : goal.returns-in_err-t
+pub returns-in_err-left : goal.returns-in_err-left
 unfolding kind_number
-returns-in_err-t c = rw c.from_residual.ensures (response_bad _ c.in_default.ensures c.in_default-word_at.ensures c.in_default-word_at-2.ensures c.in_err-t.ensures)
+returns-in_err-left c = rw c.from_residual.ensures (response_bad _ c.in_default.ensures c.in_default-word_at.ensures c.in_default-word_at-2.ensures c.in_err-left.ensures)
 
 pub returns : goal.returns
 unfolding kind_number
-returns c = response-anew _ _ _ c.in_default.ensures c.in_default-word_at.ensures c.in_default-word_at-2.ensures c.in_ok-t.ensures c.template-2.ensures
+returns c = response-anew _ _ _ c.in_default.ensures c.in_default-word_at.ensures c.in_default-word_at-2.ensures c.in_ok-left.ensures c.template-2.ensures
