@@ -6,45 +6,13 @@ use mathlib.Core.List.{List, [], ◌∷◌, ◌++◌}
 use Prim.Native.Nat.{ℕ, ◌-◌, ◌<◌, ◌≤◌}
 use native.Mathlib.Omega.{arith}
 use lib.Dec.{leb}
-use borrow.Author.Tests.{le-leb, lt-leb, ne_eqb}
+use borrow.Author.Tests.{le-leb, lt-leb}
 use Rattle.lexer.specs.Class.{within}
 use Rattle.lexer.specs.Tokens.{Token, word, mark}
 use Rattle.lexer.specs.Render.{gap, render_from}
-use Rattle.common.proofs.Bools.{or-none}
 use Rattle.render.specs.Decoded.{keyword_of, is_word, bytes_of, token_of}
 
 module _ (b : ℕ) where
-  -- 128 and an id: a name
-  pub word_high : 128 ≤ b → is_word b ≡ true
-  unfolding is_word
-  word_high h = rw (le-leb 128 b h) refl
-
-  -- a mark below the digits
-  pub word_low : b < 48 → is_word b ≡ false
-  unfolding is_word
-  word_low h = rw (lt-leb 128 b (omega arith), lt-leb 97 b (omega arith), lt-leb 48 b h) refl
-
-  -- a digit
-  pub word_digit : 48 ≤ b → b ≤ 57 → is_word b ≡ true
-  unfolding is_word
-  word_digit h k = rw (lt-leb 128 b (omega arith), lt-leb 97 b (omega arith), le-leb 48 b h, le-leb b 57 k) refl
-
-  -- a mark between digits and letters
-  pub word_middle : 57 < b → b < 97 → is_word b ≡ false
-  unfolding is_word
-  word_middle h k = rw (lt-leb 128 b (omega arith), lt-leb 97 b k, le-leb 48 b (omega arith), lt-leb b 57 h) refl
-
-  -- from the letters on: a letter, or a byte after them
-  pub word-letter : 97 ≤ b → b < 128 → is_word b ≡ leb b 122
-  unfolding is_word
-  word-letter h k = rw (lt-leb 128 b k, le-leb 97 b h, le-leb 48 b (omega arith), lt-leb b 57 (omega arith)) (or-none (leb b 122) false refl)
-
-  -- a letter that stands for no keyword
-  pub key_none : (b ≡ 97 → ⊥) → (b ≡ 110 → ⊥) → (b ≡ 111 → ⊥) → (b ≡ 112 → ⊥) → (b ≡ 104 → ⊥) → (b ≡ 115 → ⊥) → (b ≡ 119 → ⊥) → keyword_of b ≡ []
-  unfolding keyword_of
-  key_none h₁ h₂ h₃ h₄ h₅ h₆ h₇ =
-      rw (ne_eqb b 97 h₁, ne_eqb b 110 h₂, ne_eqb b 111 h₃, ne_eqb b 112 h₄, ne_eqb b 104 h₅, ne_eqb b 115 h₆, ne_eqb b 119 h₇) refl
-
   module _ (name : ℕ → List ℕ) where
     -- the bytes of its token: a name's by its id
     pub bytes-name : 128 ≤ b → bytes_of name b ≡ name (b - 128)

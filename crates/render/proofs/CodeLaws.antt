@@ -11,17 +11,8 @@ use lib.Seq.{drop-cons}
 use Rattle.lexer.specs.Render.{gap, render_from, render}
 use Rattle.columns.specs.Writing.{Writes}
 use Rattle.columns.proofs.WriteLaws.{writes_none, writes_then, writes_same}
-use Rattle.render.specs.Decoded.{keyword_of, is_word, bytes_of, token_of}
+use Rattle.render.specs.Decoded.{is_word, bytes_of, token_of}
 use Rattle.render.proofs.ByteLaws.{render-byte}
-
--- the keyword of a letter, told by the letter
-pub keyword_written : {at b r : ℕ} {lent left : List ℕ} (k : ℕ) → b ≡ k → Writes at (keyword_of k) lent left r → Writes at (keyword_of b) lent left r
-keyword_written k e f = writes_same (ap keyword_of (sym e)) f
-
-module _ {at r : ℕ} {lent left : List ℕ} (after : Bool) (b : ℕ) where
-  -- "one space between two neighbouring words"
-  pub gap_between : {k : Bool} → after ≡ true → k ≡ is_word b → k ≡ true → Writes at (32 ∷ []) lent left r → Writes at (gap (after && is_word b) []) lent left r
-  gap_between a e h f = writes_same (rw (a, sym e ∙ h) refl) f
 
 module _ (at : ℕ) (lent : List ℕ) (after : Bool) (b : ℕ) where
   -- "and no other space": none between a word and a mark

@@ -7,78 +7,48 @@ ghost use Rattle.render.specs.Decoded.{keyword_of, is_word, bytes_of, token_of, 
 use columns::{put, text, word};
 use follow::number_at;
 
-// The keyword of a letter.
-fn keyword(out: &mut [u8], at: usize, b: u8) -> usize
-    ensures { Writes at (keyword_of b) out.old out.new result }
+// The keyword of a letter; for any other byte nothing.
+#[tactic(auto, unfolding(crate::specs::Decoded::keyword_of))]
+fn keyword(b: u8) -> &'static [u8]
+    ensures { result.now ≡ keyword_of b }
 {
-    if b == b'a' {
-        return text(out, at, b"any");
+    match b {
+        b'a' => b"any",
+        b'n' => b"not",
+        b'o' => b"or",
+        b'p' => b"pass",
+        b'h' => b"hold",
+        b's' => b"send",
+        b'w' => b"anew",
+        _ => b"",
     }
-    if b == b'n' {
-        return text(out, at, b"not");
-    }
-    if b == b'o' {
-        return text(out, at, b"or");
-    }
-    if b == b'p' {
-        return text(out, at, b"pass");
-    }
-    if b == b'h' {
-        return text(out, at, b"hold");
-    }
-    if b == b's' {
-        return text(out, at, b"send");
-    }
-    if b == b'w' {
-        return text(out, at, b"anew");
-    }
-    at
 }
 
 // Whether a byte of code stands for a word.
+#[tactic(auto, unfolding(crate::specs::Decoded::is_word))]
 fn is_word(b: u8) -> bool
     ensures { result ≡ is_word b }
 {
-    if 128 <= b {
-        return true;
-    }
-    if b < 48 {
-        return false;
-    }
-    if b <= 57 {
-        return true;
-    }
-    if b < 97 {
-        return false;
-    }
-    b <= 122
+    matches!(b, 128..|b'a'..=b'z'| b'0'..=b'9')
 }
 
 // The bytes of a token.
 fn token(out: &mut [u8], at: usize, b: u8, names: &[u64]) -> usize
     ensures { Writes at (bytes_of (name_in names.now) b) out.old out.new result }
 {
-    if 128 <= b {
-        let name = number_at(names, (b - 128) as usize);
-        return word(out, at, name);
+    match b {
+        128.. => word(out, at, number_at(names, usize::from(b - 128))),
+        b'a'..=b'z' => text(out, at, keyword(b)),
+        _ => put(out, at, b),
     }
-    if b < 97 {
-        return put(out, at, b);
-    }
-    if 122 < b {
-        return put(out, at, b);
-    }
-    keyword(out, at, b)
 }
 
 // A space, where a word stands before and another follows.
 fn space(out: &mut [u8], at: usize, after: bool, b: u8) -> usize
     ensures { Writes at (gap (after && is_word b) []) out.old out.new result }
 {
-    if after {
-        if is_word(b) {
-            return put(out, at, b' ');
-        }
+    if after && is_word(b) {
+        return put(out, at, b' ');
     }
     at
 }
@@ -89,13 +59,10 @@ pub fn tokens(out: &mut [u8], at: usize, code: &[u8], names: &[u64]) -> usize
 {
     let mut next = at;
     let mut after = false;
-    let mut i: usize = 0;
-    while i < code.len() {
-        let b = code[i];
+    for &b in code {
         let start = space(out, next, after, b);
         next = token(out, start, b, names);
         after = is_word(b);
-        i += 1;
     }
     next
 }

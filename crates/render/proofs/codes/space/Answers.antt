@@ -1,19 +1,12 @@
--- `space` meets its contract: a space where two words meet, and else nothing.
+-- `space` meets its contract: where no two words meet, nothing.
 -- Assumes nothing.
-use Rattle.columns.proofs.WriteLaws.{writes_length}
-use Rattle.render.proofs.CodeLaws.{gap_between, gap_before_mark, gap_after_mark}
+use Rattle.render.proofs.CodeLaws.{gap_before_mark, gap_after_mark}
 use Rattle.render.proofs.codes.space.Goals as goal
+use Rattle.render.proofs.codes.space.Goals.{else-after-via-then-after+else-is_word, else-after-via-else-after}
 
-pub shape_of-out-then-is_word : goal.shape_of-out-then-is_word
-shape_of-out-then-is_word c = writes_length c.put.ensures
-
-pub returns-then-is_word : goal.returns-then-is_word
-returns-then-is_word c =
-    gap_between _ _ c.if-after.true c.is_word.ensures c.if-is_word.true c.put.ensures
-
-pub returns-else-is_word : goal.returns-else-is_word
-returns-else-is_word c =
-    gap_before_mark _ _ _ _ c.if-after.true c.is_word.ensures c.if-is_word.false
-
-pub returns-else-after : goal.returns-else-after
-returns-else-after c = gap_after_mark _ _ _ _ c.if-after.false
+pub returns : goal.returns
+returns c =
+    elim c.else-after.branch [
+      | else-after-via-then-after+else-is_word w ↦ gap_before_mark _ _ _ _ w.if-after.true w.is_word.ensures w.if-is_word.false
+      | else-after-via-else-after w ↦ gap_after_mark _ _ _ _ w.if-after.false
+    ]
