@@ -1,22 +1,11 @@
 -- `settle` meets its contract: where an event is committed the positions move on, and else they stay.
 -- Assumes nothing.
-use mathlib.Core.Path.{refl, sym, ◌∙◌}
-use lib.Seq.{length-take-le}
+use Rattle.std.proofs.Common.{refl}
 use Rattle.monitor.proofs.EventLaws.{recorded_moved, recorded_still}
 use Rattle.monitor.proofs.events.settle.Goals as goal
 
-pub slice_bounds-roles-end : goal.slice_bounds-roles-end
-slice_bounds-roles-end c = c.roles_held-held.ensures.small
+pub returns-in-Committed : goal.returns-in-Committed
+returns-in-Committed c = recorded_moved _ _ _ c.args.o _ _ c.in-Committed.is (rw c.roles.ensures at c.advance.ensures)
 
-pub slice_bounds-advance-end : goal.slice_bounds-advance-end
-slice_bounds-advance-end c = sym (length-take-le _ _ c.roles_held-held.ensures.small)
-
-pub returns-then-commits : goal.returns-then-commits
-returns-then-commits c =
-    let o = c.args.o in
-    recorded_moved _ _ _ o _ _ (sym c.commits.ensures ∙ c.if-commits.true) (rw c.roles_held-held.ensures.is at c.advance.ensures)
-
-pub returns-else-commits : goal.returns-else-commits
-returns-else-commits c =
-    let o = c.args.o in
-    recorded_still _ _ _ o _ _ (sym c.commits.ensures ∙ c.if-commits.false) refl
+pub returns-in_default : goal.returns-in_default
+returns-in_default c = recorded_still _ _ _ c.args.o _ _ c.in_default.not-Committed refl
