@@ -1,12 +1,6 @@
 -- An event with one role more.
 -- Assumes nothing.
-use mathlib.Core.Path.{◌≡◌}
-use mathlib.Core.List.{[], ◌∷◌, ◌++◌}
-use Prim.Native.Nat.{ℕ, ◌+◌, ◌<◌}
-use native.Mathlib.Numerals.{add-one}
-use native.Mathlib.Omega.{arith}
-use lib.ListN.{length, set}
-use lib.Seq.{take-suc-set}
+use Rattle.std.proofs.Common.{◌≡◌, [], ◌∷◌, ◌++◌, ℕ, ◌+◌, ◌<◌, add-one, arith, length, set, take-suc-set}
 use Rattle.follow.specs.State.{event_of}
 use Rattle.follow.specs.declared.state.Event.{Event}
 use Rattle.follow.proofs.CappedLaws.{capped_small}
