@@ -1,85 +1,50 @@
 -- Laws of hexadecimal digits: the value of a byte, of one digit more at the end, and how large a number of some digits can be.
 -- Assumes nothing.
-use mathlib.Core.Path.{◌≡◌, refl, sym, ap, ◌∙◌}
-use mathlib.Core.List.{List, [], ◌∷◌, ◌++◌}
-use Prim.Native.Nat.{ℕ, zero, suc, ◌+◌, ◌-◌, ◌*◌, ◌/◌, ◌%◌, ◌^◌, ◌<◌, ◌≤◌}
-use native.Mathlib.Nat.{pow-le-pow_right}
-use native.Mathlib.Omega.{arith}
-use lib.ListN.{length, take, drop, get_or, length-drop}
-use lib.Seq.{take-suc, take_all, get_or-drop}
-use borrow.Author.Tests.{lt-ltb, le-ltb, le-leb, lt-leb}
+use Rattle.std.proofs.Common.{◌≡◌, refl, sym, ap, ◌∙◌, ℕ, zero, suc, ◌+◌, ◌-◌, ◌*◌, ◌/◌, ◌%◌, ◌^◌, ◌<◌, ◌≤◌, min, List, [], ◌∷◌, ◌++◌, length, take, drop, get_or, arith, add-one, length-drop, length-take, ⊎_elim, ◌⊎◌, inl, inr, take_all, take-suc, drop_of_length-le}
+use Rattle.std.proofs.Math.Nat.{pow-le-pow_right}
+use Rattle.std.proofs.lemmas.Bool.Decides.{leb_tells}
+use Rattle.std.proofs.Math.Seq.{take-nil}
 use Rattle.book.specs.Images.{hex_digit, hex_of}
 use Rattle.book.specs.Restoring.{hex_value, value_from, marks_in}
 use Rattle.book.proofs.MarkRecords.{value-end, marks-below}
 
--- DIGITS
+-- READING
 
--- the byte of a digit below ten, and of one from ten on
-pub digit_low : (d : ℕ) → d < 10 → hex_digit d ≡ 48 + d
-unfolding hex_digit
-digit_low d h = rw (lt-ltb d 10 h) refl
+-- the columns of the digits, as many of them as there are
+pub columns-are : (r : List ℕ) (a b : ℕ) → a ≡ min (length r) 10 → b ≡ min (length r) 18 → take (b - a) (drop a r) ≡ take 8 (drop 10 r)
+columns-are r a b p q = ⊎_elim short (λ h. ⊎_elim (some h) (full h) (split 18)) (split 10)
+  where
+    split : (n : ℕ) → (length r ≤ n) ⊎ (n < length r)
+    split n = ⊎_elim (λ h. inl h.1) (λ h. inr h.1) (leb_tells (length r) n)
 
-pub digit_high : (d : ℕ) → 10 ≤ d → hex_digit d ≡ 55 + d
-unfolding hex_digit
-digit_high d h = rw (le-ltb d 10 h) refl
+    short : length r ≤ 10 → take (b - a) (drop a r) ≡ take 8 (drop 10 r)
+    short h = rw (drop_of_length-le r {i = a} (omega arith), drop_of_length-le r {i = 10} h, take-nil (b - a)) refl
 
--- the value of a byte
-pub value_low : (b : ℕ) → 48 ≤ b → b ≤ 57 → hex_value b ≡ b - 48
-unfolding hex_value
-value_low b h k = rw (le-leb 48 b h, le-leb b 57 k) refl
+    from : 10 < length r → drop a r ≡ drop 10 r
+    from h = let e : a ≡ 10 = omega arith in ap (λ (j : ℕ). drop j r) e
 
-pub value_high : (b : ℕ) → 65 ≤ b → b ≤ 70 → hex_value b ≡ b - 55
-unfolding hex_value
-value_high b h k = rw (le-leb 48 b (omega arith), lt-leb b 57 (omega arith), le-leb 65 b h, le-leb b 70 k) refl
+    some : 10 < length r → length r ≤ 18 → take (b - a) (drop a r) ≡ take 8 (drop 10 r)
+    some h k = let l = length-drop 10 r in rw (from h) (take_all (b - a) (drop 10 r) (omega arith) ∙ sym (take_all 8 (drop 10 r) (omega arith)))
 
--- of a byte that is no digit: before `0`, between `9` and `A`, after `F`
-pub value_before : (b : ℕ) → b < 48 → hex_value b ≡ 0
-unfolding hex_value
-value_before b h = rw (lt-leb 48 b h, lt-leb 65 b (omega arith)) refl
+    full : 10 < length r → 18 < length r → take (b - a) (drop a r) ≡ take 8 (drop 10 r)
+    full h k = let e : b - a ≡ 8 = omega arith in rw (from h, e) refl
 
-pub value_between : (b : ℕ) → 57 < b → b < 65 → hex_value b ≡ 0
-unfolding hex_value
-value_between b h k = rw (le-leb 48 b (omega arith), lt-leb b 57 h, lt-leb 65 b k) refl
-
-pub value_after : (b : ℕ) → 70 < b → hex_value b ≡ 0
-unfolding hex_value
-value_after b h = rw (le-leb 48 b (omega arith), lt-leb b 57 (omega arith), le-leb 65 b (omega arith), lt-leb b 70 h) refl
-
--- NUMBERS
-
--- the number in the columns from 10 up to i
-abbrev pub up_to : ℕ → List ℕ → ℕ
-up_to i r = value_from 0 (take (i - 10) (drop 10 r))
-
--- one column more
-pub up_to-more : (i : ℕ) (r : List ℕ) → 10 ≤ i → i < length r → up_to (i + 1) r ≡ up_to i r * 16 + hex_value (get_or r i 0)
-up_to-more i r h k =
-    let n : i + 1 - 10 ≡ suc (i - 10) = omega arith in
-    let m : 10 + (i - 10) ≡ i = omega arith in
-    let l = length-drop 10 r in
-    let t : take (suc (i - 10)) (drop 10 r) ≡ take (i - 10) (drop 10 r) ++ (get_or r i 0 ∷ []) =
-    take-suc (drop 10 r) (i - 10) 0 (omega arith) ∙ ap (λ (b : ℕ). take (i - 10) (drop 10 r) ++ (b ∷ [])) (get_or-drop 10 r (i - 10) 0 ∙ ap (λ (j : ℕ). get_or r j 0) m) in
-    ap (λ (j : ℕ). value_from 0 (take j (drop 10 r))) n ∙ ap (value_from 0) t ∙ value-end 0 (take (i - 10) (drop 10 r)) (get_or r i 0)
-
--- seven digits leave room for one more
-pub up_to-below : (i : ℕ) (r : List ℕ) → i ≤ 17 → up_to i r < 268435456
+-- seven digits leave room for one more, and there are eight columns at most
+pub room-left : (r : List ℕ) (a b k n : ℕ) → a ≡ min (length r) 10 → b ≡ min (length r) 18 → k < length (take (b - a) (drop a r)) → n ≡ value_from 0 (take k (take (b - a) (drop a r)))
+    → n < 268435456
 unfolding marks_in
-up_to-below i r h =
-    let b : up_to i r < 16 ^ (i - 10) = marks-below (i - 10) r in
-    let m : i - 10 ≤ 7 = omega arith in
-    let k : 16 ^ (i - 10) ≤ 16 ^ 7 = pow-le-pow_right (omega arith) m in
-    omega (arith, b, k)
+room-left r a b k n p q h e =
+    let l = length-take 8 (drop 10 r) in
+    let c = columns-are r a b p q in
+    let d = ap length c in
+    let few : k ≤ 7 = omega (arith, h, l, d) in
+    let m : value_from 0 (take k (take (b - a) (drop a r))) < 16 ^ k = marks-below k (0 ∷ 0 ∷ 0 ∷ 0 ∷ 0 ∷ 0 ∷ 0 ∷ 0 ∷ 0 ∷ 0 ∷ take (b - a) (drop a r)) in
+    let w : 16 ^ k ≤ 16 ^ 7 = pow-le-pow_right (omega arith) few in
+    omega (arith, e, m, w)
 
--- where the record ends, all is read
-pub up_to-short : (i : ℕ) (r : List ℕ) → 10 ≤ i → i ≤ 18 → length r ≤ i → up_to i r ≡ marks_in 8 r
-unfolding marks_in
-up_to-short i r h k n =
-    let l = length-drop 10 r in
-    ap (value_from 0) (take_all (i - 10) (drop 10 r) (omega arith) ∙ sym (take_all 8 (drop 10 r) (omega arith)))
-
-pub up_to-all : (r : List ℕ) → up_to 18 r ≡ marks_in 8 r
-unfolding marks_in
-up_to-all r = refl
+-- one digit more
+pub digit_more : (k : ℕ) (s : List ℕ) → k < length s → value_from 0 (take (k + 1) s) ≡ value_from 0 (take k s) * 16 + hex_value (get_or s k 0)
+digit_more k s h = rw (add-one, take-suc s k 0 h) (value-end 0 (take k s) (get_or s k 0))
 
 -- WRITING
 

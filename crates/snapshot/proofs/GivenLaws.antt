@@ -1,7 +1,7 @@
 -- Laws of the marks that an image gives: rule by rule they are what its records say, the last rule first, and the state with them represents the machine with them.
 -- Assumes nothing.
 use mathlib.Core.Path.{◌≡◌, refl, sym, ap, ap₂, ◌∙◌, subst}
-use mathlib.Core.Bool.{Bool, true, false}
+use mathlib.Core.Bool.{false}
 use mathlib.Core.List.{List, [], ◌∷◌, ◌++◌}
 use mathlib.Core.Option.{Option, none, some}
 use mathlib.Core.Logic.{⊎_elim}
@@ -29,7 +29,10 @@ use Rattle.book.specs.Images.{in_order, digits}
 use Rattle.book.specs.Restoring.{and_then, read_mark, rule_marks, with_marks, read_marks, marks_read}
 use Rattle.book.proofs.ImageLists.{order_twice, order_length}
 use Rattle.book.proofs.MarkRecords.{mark-said}
-use Rattle.snapshot.specs.Reading.{mark_at, MarksTaken, records_in, ImageAs, MarksGiven}
+use Rattle.std.specs.Prelude.{Result, Ok, Err, Some, None, ok_or}
+use Rattle.std.specs.Prelude.{Option as Given}
+use Rattle.common.specs.declared.refusals.Refusal as Why
+use Rattle.snapshot.specs.Reading.{mark_at, MarksTaken, records_in, TakenAs, MarksGiven}
 
 -- RECORDS, THE LAST FIRST
 
@@ -87,15 +90,15 @@ abbrev with_rules : PositionMachine → List PositionRule → Option PositionMac
 with_rules t xs = some (record { roles = t.roles; rules = xs })
 
 -- "whose `M` records don't name each rule once": more or fewer records than rules
-pub given_uneven : (f : State) (s : List ℕ) → (length s / 128 ≡ f.sheet.rule_count → ⊥) → MarksGiven f s (record { ok = false; state = f })
-given_uneven f s n =
+pub given_uneven : (f : State) (s : List ℕ) (d : Why.Refusal) → (length s / 128 ≡ f.sheet.rule_count → ⊥) → MarksGiven f s (Err d) f
+given_uneven f s d n =
     record {
       right = λ t rep.
           let a = order_length (records_in s) in
           let b = records-count (length s / 128) s in
           let c = rules-long f f.sheet.rule_count t.rules rep.rules in
           let e : read_marks t.rules (in_order (records_in s)) ≡ none = marks_uneven t.rules (in_order (records_in s)) (λ q. n (sym b ∙ sym a ∙ sym q ∙ c)) in
-          subst (λ (o : Option (List PositionRule)). ImageAs (and_then o (with_rules t)) (record { ok = false; state = f })) (sym e) refl;
+          subst (λ (o : Option (List PositionRule)). TakenAs (and_then o (with_rules t)) (Err d) f) (sym e) refl;
     }
 
 module _ (f : State) (s after : List ℕ) where
@@ -135,22 +138,21 @@ module _ (f : State) (s after : List ℕ) where
       (split i n (omega arith))
 
   -- as many records as rules: the state with the marks read, or none
-  pub given-marks : (ok : Bool) → length f.positions ≡ 32 → length s / 128 ≡ f.sheet.rule_count → MarksTaken mark f.sheet.rule_count f.positions after ok
-      → MarksGiven f s (record { ok = ok; state = given })
-  given-marks ok long even h = record { right = λ t rep. go t rep ok h }
+  pub given-marks : (o : Given Unit) (d : Why.Refusal) → length f.positions ≡ 32 → length s / 128 ≡ f.sheet.rule_count → MarksTaken mark f.sheet.rule_count f.positions after o
+      → MarksGiven f s (ok_or o d) given
+  given-marks o d long even h = record { right = λ t rep. go t rep o h }
     where
       -- the records are as many as the rules
-      read : (t : PositionMachine) (o : Option (List PositionRule)) (ok : Bool) → read_marks t.rules (in_order (records_of f.sheet.rule_count s)) ≡ o
-          → ImageAs (and_then o (with_rules t)) (record { ok = ok; state = given }) → ImageAs (marks_read t (records_in s)) (record { ok = ok; state = given })
-      read t o ok e a =
-          subst (λ (x : Option (List PositionRule)). ImageAs (and_then x (with_rules t)) (record { ok = ok; state = given }))
+      read : (t : PositionMachine) (x : Option (List PositionRule)) (r : Result Unit Why.Refusal) → read_marks t.rules (in_order (records_of f.sheet.rule_count s)) ≡ x
+          → TakenAs (and_then x (with_rules t)) r given → TakenAs (marks_read t (records_in s)) r given
+      read t x r e a =
+          subst (λ (y : Option (List PositionRule)). TakenAs (and_then y (with_rules t)) r given)
           (sym (ap (λ (k : ℕ). read_marks t.rules (in_order (records_of k s))) even ∙ e)) a
 
-      go : (t : PositionMachine) → Represents f t → (ok : Bool) → MarksTaken mark f.sheet.rule_count f.positions after ok
-          → ImageAs (marks_read t (records_in s)) (record { ok = ok; state = given })
-      go t rep true m =
+      go : (t : PositionMachine) → Represents f t → (o : Given Unit) → MarksTaken mark f.sheet.rule_count f.positions after o → TakenAs (marks_read t (records_in s)) (ok_or o d) given
+      go t rep (Some u) m =
           let r = marks-some f.sheet.rule_count t.rules rep.rules (m.taken refl) in
-          read t (some r.0) true r.1 (refl, record { naming = rep.naming; few = rep.few; roles = rep.roles; rules = r.2 })
-      go t rep false m =
-          let d = m.turned_away (omega (arith, rep.few, long)) refl in
-          read t none false (marks-none f.sheet.rule_count t.rules rep.rules d.0 d.1 d.2) refl
+          read t (some r.0) (Ok u) r.1 (refl, record { naming = rep.naming; few = rep.few; roles = rep.roles; rules = r.2 })
+      go t rep None m =
+          let w = m.turned_away (omega (arith, rep.few, long)) refl in
+          read t none (Err d) (marks-none f.sheet.rule_count t.rules rep.rules w.0 w.1 w.2) refl

@@ -1,6 +1,5 @@
 pub mod DigitLaws
 pub mod MarkLaws
-pub mod WrittenLaws
 pub mod KeepLaws
 pub mod StateImage
 pub mod LineLaws

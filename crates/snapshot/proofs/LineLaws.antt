@@ -17,6 +17,8 @@ use Rattle.grammar.specs.Size.{size_past}
 use Rattle.grammar.specs.Lines.{read_line}
 use Rattle.frame.specs.Text.{text_of}
 use Rattle.patterns.specs.Roles.{is_held, all_held}
+use Rattle.common.specs.declared.refusals.Refusal as Why
+use Rattle.std.specs.Prelude.{Result, Ok, Err}
 use Rattle.follow.specs.State.{refuse}
 use Rattle.follow.specs.declared.state.State.{State}
 use Rattle.follow.specs.declared.declare.Declared.{Declared}
@@ -67,48 +69,75 @@ roles-count f t rep = ap length rep.roles ∙ roles-long (name_at f.sheet) f.she
 rules-count : (f : State) (t : PositionMachine) → Represents f t → length t.rules ≡ f.sheet.rule_count
 rules-count f t rep = rules-long f f.sheet.rule_count t.rules rep.rules
 
+-- what declaring a line gives: it is taken, and the state left represents the machine with it; or it is refused
+abbrev DeclaredTo : Option PositionMachine → Declared → Type 0
+DeclaredTo none d = d.number ≡ 0 → ⊥
+DeclaredTo (some u) d = (d.number ≡ 0) × Represents d.state u
+
+-- as the readers of images tell it
+line-ok : (o : Option PositionMachine) (d : Declared) → d.number ≡ 0 → DeclaredTo o d → TakenAs o (Ok tt) d.state
+line-ok none d z n = absurd (n z)
+line-ok (some u) d z h = (refl, h.1)
+
+line-err : (o : Option PositionMachine) (d : Declared) (e : Why.Refusal) → (d.number ≡ 0 → ⊥) → DeclaredTo o d → TakenAs o (Err e) d.state
+line-err none d e n h = refl
+line-err (some u) d e n h = absurd (n h.0)
+
 module _ (f : State) (d : Declared) where
   -- a refusal's number is not 0
   not_taken : (n : ℕ) → 2 ≤ n → d ≡ refuse f n → d.number ≡ 0 → ⊥
   not_taken n h e z = let q : n ≡ 0 = sym (ap (λ (x : Declared). x.number) e) ∙ z in absurd (omega (arith, h, q))
 
   -- before every rule line, a line is taken as it is declared
-  first_taken : (t : PositionMachine) → length t.rules ≡ 0 → (a : Asked) → Numbered a → DeclaredAs f t a d → TakenAs (take_asked t a) d
+  first_taken : (t : PositionMachine) → length t.rules ≡ 0 → (a : Asked) → Numbered a → DeclaredAs f t a d → DeclaredTo (take_asked t a) d
   first_taken t z (refused_by n) m y = not_taken n m.0 y
   first_taken t z (asks_role w p) m y = rw (eq-eqb (length t.rules) 0 z) (ap (λ (x : Declared). x.number) y.is, y.state)
   first_taken t z (asks_rule r) m y = (ap (λ (x : Declared). x.number) y.is, y.state)
   first_taken t z (asks_event e) m y = absurd y
 
   -- where no role joins, too
-  same_taken : (t : PositionMachine) → Represents f t → d.state.sheet.role_count ≡ f.sheet.role_count → (a : Asked) → Numbered a → DeclaredAs f t a d → TakenAs (take_asked t a) d
+  same_taken : (t : PositionMachine) → Represents f t → d.state.sheet.role_count ≡ f.sheet.role_count → (a : Asked) → Numbered a → DeclaredAs f t a d → DeclaredTo (take_asked t a) d
   same_taken t rep z (refused_by n) m y = not_taken n m.0 y
   same_taken t rep z (asks_role w p) m y = absurd (omega (arith, z, roles-count f t rep, roles-count d.state (with_role t w p) y.state))
   same_taken t rep z (asks_rule r) m y = (ap (λ (x : Declared). x.number) y.is, y.state)
   same_taken t rep z (asks_event e) m y = absurd y
 
   -- a role line after a rule line is not taken
-  late_refused : (t : PositionMachine) → Represents f t → (length t.rules ≡ 0 → ⊥) → (d.state.sheet.role_count ≡ f.sheet.role_count → ⊥) → (a : Asked) → DeclaredAs f t a d
-      → TakenAs (take_asked t a) (refuse d.state 12)
-  late_refused t rep some-rules other (refused_by n) y = λ q. absurd (omega (arith, q))
-  late_refused t rep some-rules other (asks_role w p) y = rw (ne_eqb (length t.rules) 0 some-rules) (λ q. absurd (omega (arith, q)))
-  late_refused t rep some-rules other (asks_rule r) y = absurd (other (sym (roles-count d.state _ y.state) ∙ roles-count f t rep))
-  late_refused t rep some-rules other (asks_event e) y = absurd y
+  late_refused : (t : PositionMachine) → Represents f t → (length t.rules ≡ 0 → ⊥) → (d.state.sheet.role_count ≡ f.sheet.role_count → ⊥) → (e : Why.Refusal) → (a : Asked) → DeclaredAs f t a d
+      → TakenAs (take_asked t a) (Err e) d.state
+  late_refused t rep some-rules other e (refused_by n) y = refl
+  late_refused t rep some-rules other e (asks_role w p) y = rw (ne_eqb (length t.rules) 0 some-rules) refl
+  late_refused t rep some-rules other e (asks_rule r) y = absurd (other (sym (roles-count d.state _ y.state) ∙ roles-count f t rep))
+  late_refused t rep some-rules other e (asks_event v) y = absurd y
 
   module _ (s : List ℕ) (h : LineDeclared f s d) where
-    -- no rule yet
-    pub in_order_first : f.sheet.rule_count ≡ 0 → LineInOrder f s d
-    in_order_first z =
-        record { right = λ t rep k. first_taken t (rules-count f t rep ∙ z) (line_asked t (read_line s)) (line-numbered t.roles (names_of t.rules) (read_line s)) (h.right t rep k) }
+    -- what the machine is asked
+    abbrev what : PositionMachine → Asked
+    what t = line_asked t (read_line s)
 
-    -- no role more
-    pub in_order_same : d.state.sheet.role_count ≡ f.sheet.role_count → LineInOrder f s d
-    in_order_same z =
-        record { right = λ t rep k. same_taken t rep z (line_asked t (read_line s)) (line-numbered t.roles (names_of t.rules) (read_line s)) (h.right t rep k) }
+    numbered : (t : PositionMachine) → Numbered (what t)
+    numbered t = line-numbered t.roles (names_of t.rules) (read_line s)
+
+    -- refused
+    pub in_order_refused : (e : Why.Refusal) → (d.number ≡ 0 → ⊥) → LineInOrder f s (Err e) d.state
+    in_order_refused e n = record { right = λ t rep k. refused_here t (what t) (h.right t rep k) }
+      where
+        refused_here : (t : PositionMachine) (a : Asked) → DeclaredAs f t a d → TakenAs (take_asked t a) (Err e) d.state
+        refused_here t (refused_by j) y = refl
+        refused_here t (asks_role w p) y = absurd (n (ap (λ (x : Declared). x.number) y.is))
+        refused_here t (asks_rule r) y = absurd (n (ap (λ (x : Declared). x.number) y.is))
+        refused_here t (asks_event v) y = absurd y
+
+    -- no rule yet, or no role more
+    pub in_order_first : d.number ≡ 0 → f.sheet.rule_count ≡ 0 → LineInOrder f s (Ok tt) d.state
+    in_order_first z q = record { right = λ t rep k. line-ok _ d z (first_taken t (rules-count f t rep ∙ q) (what t) (numbered t) (h.right t rep k)) }
+
+    pub in_order_same : d.number ≡ 0 → d.state.sheet.role_count ≡ f.sheet.role_count → LineInOrder f s (Ok tt) d.state
+    in_order_same z q = record { right = λ t rep k. line-ok _ d z (same_taken t rep q (what t) (numbered t) (h.right t rep k)) }
 
     -- a role after a rule
-    pub in_order_late : (f.sheet.rule_count ≡ 0 → ⊥) → (d.state.sheet.role_count ≡ f.sheet.role_count → ⊥) → LineInOrder f s (refuse d.state 12)
-    in_order_late n z =
-        record { right = λ t rep k. late_refused t rep (λ q. n (sym (rules-count f t rep) ∙ q)) z (line_asked t (read_line s)) (h.right t rep k) }
+    pub in_order_late : (e : Why.Refusal) → (f.sheet.rule_count ≡ 0 → ⊥) → (d.state.sheet.role_count ≡ f.sheet.role_count → ⊥) → LineInOrder f s (Err e) d.state
+    in_order_late e n z = record { right = λ t rep k. late_refused t rep (λ q. n (sym (rules-count f t rep) ∙ q)) z e (what t) (h.right t rep k) }
 
 -- WHAT A RECORD ASKS
 
@@ -118,28 +147,28 @@ module _ (f : State) (s : List ℕ) (a : Request) (asks : Asks (table_of f.sheet
   asked_of_lem t rep b h = ap (λ (rs : Roles). asked rs (names_of t.rules) s) rep.roles ∙ h (names_of t.rules)
 
   -- a record that is refused is not taken
-  pub line_turned : a.kind ≡ Refusal → LineTaken f s (refuse f 12)
-  line_turned e =
+  pub line_turned : (e : Why.Refusal) → a.kind ≡ Refusal → LineTaken f s (Err e) f
+  line_turned e k =
       record {
         right = λ t rep.
-            subst (λ (b : Asked). TakenAs (take_asked t b) (refuse f 12))
-            (sym (asked_of_lem t rep (refused_by a.number) (by_refusal f.sheet s a (asks.right f.sheet rep.naming refl) e))) (λ q. absurd (omega (arith, q)));
+            subst (λ (b : Asked). TakenAs (take_asked t b) (Err e) f)
+            (sym (asked_of_lem t rep (refused_by a.number) (by_refusal f.sheet s a (asks.right f.sheet rep.naming refl) k))) refl;
       }
 
   -- nor is an event
-  pub event_turned : a.kind ≡ EventKind → LineTaken f s (refuse f 12)
-  event_turned e =
+  pub event_turned : (e : Why.Refusal) → a.kind ≡ EventKind → LineTaken f s (Err e) f
+  event_turned e k =
       record {
         right = λ t rep.
-            let d = by_event f.sheet s a (asks.right f.sheet rep.naming refl) e in
-            subst (λ (b : Asked). TakenAs (take_asked t b) (refuse f 12)) (sym (asked_of_lem t rep (asks_event d.0) d.2)) (λ q. absurd (omega (arith, q)));
+            let d = by_event f.sheet s a (asks.right f.sheet rep.naming refl) k in
+            subst (λ (b : Asked). TakenAs (take_asked t b) (Err e) f) (sym (asked_of_lem t rep (asks_event d.0) d.2)) refl;
       }
 
   -- a line is taken by its text
-  pub line_taken : a.kind ≡ LineKind → (d : Declared) → LineInOrder f (text_of s) d → LineTaken f s d
-  line_taken e d h =
+  pub line_taken : a.kind ≡ LineKind → (r : Result Unit Why.Refusal) (g : State) → LineInOrder f (text_of s) r g → LineTaken f s r g
+  line_taken e r g h =
       record {
         right = λ t rep.
-            subst (λ (b : Asked). TakenAs (take_asked t b) d)
+            subst (λ (b : Asked). TakenAs (take_asked t b) r g)
             (sym (asked-line t.roles (names_of t.rules) s (by_line f.sheet s a (asks.right f.sheet rep.naming refl) e))) (h.right t rep (text-small s));
       }

@@ -1,15 +1,8 @@
 -- Laws of the record of marks: what is written is that record, which numbers are marks of a past, and what is read of a record.
 -- Assumes nothing.
-use mathlib.Core.Path.{◌≡◌, refl, sym, ap, ◌∙◌}
-use mathlib.Core.Bool.{Bool, true, false, cond, ◌&&◌}
-use mathlib.Core.List.{List, [], ◌∷◌, ◌++◌, append_assoc}
-use mathlib.Core.Option.{none, some}
-use Prim.Native.Nat.{ℕ, suc, ◌-◌, ◌<◌, ◌≤◌}
-use native.Mathlib.Omega.{arith}
-use lib.Dec.{ltb}
-use lib.Pow.{pow_mono}
-use lib.ListN.{length, set}
-use borrow.Author.Tests.{lt-ltb}
+use Rattle.std.proofs.Common.{◌≡◌, refl, sym, ap, ◌∙◌, Bool, true, false, not, Option, cond, ◌&&◌, List, [], ◌∷◌, ◌++◌, append_assoc, ℕ, suc, ◌-◌, ◌<◌, ◌≤◌, arith, ltb, eqb, pow_mono, length, set, lt-ltb, bytes_eq}
+use Rattle.std.specs.Bool.{then_some}
+use Rattle.std.proofs.Math.Option.{none, some}
 use Rattle.lexer.specs.Words.{same}
 use Rattle.frame.specs.Record.{newline}
 use Rattle.columns.specs.Texts.{spaces, padded}
@@ -20,7 +13,7 @@ use Rattle.columns.proofs.BlankLaws.{writes_padded}
 use Rattle.render.proofs.RecordLaws.{record_written}
 use Rattle.book.specs.Images.{digits, hex_of, mark_record}
 use Rattle.book.specs.Restoring.{marks_in, marks_end, read_mark}
-use Rattle.snapshot.specs.Reading.{MarkIs}
+use Rattle.snapshot.specs.Reading.{given}
 
 -- "a record of byte `M`, the name in eight columns, a space, the marks as eight capital hexadecimal digits .., spaces, newline": from its parts
 pub mark-written : {p q r t : ℕ} {w a b c d : List ℕ} (k m : ℕ) → length w ≤ 8 → Writes 0 (77 ∷ []) (spaces 128) a p → Writes p w a b q → Writes q (spaces (10 - q)) b c r
@@ -39,20 +32,33 @@ within_all m n h k =
     let q : 64 ≤ suc n = omega arith in
     sym (lt-ltb m (marks_end n) (omega (arith, pow_mono q)))
 
--- what is read of a record that is the one written, and of another
-pub read_same : (bytes w : List ℕ) (n m : ℕ) (ok : Bool) → m ≡ marks_in digits bytes → same bytes (mark_record digits w m) ≡ true → ok ≡ ltb m (marks_end n)
-    → MarkIs (record { ok = ok; marks = m }) (read_mark digits w n bytes)
-unfolding read_mark
-read_same bytes w n m ok e s k = go ok k
-  where
-    z : same bytes (mark_record digits w (marks_in digits bytes)) ≡ true
-    z = ap (λ (j : ℕ). same bytes (mark_record digits w j)) (sym e) ∙ s
+-- the comparison of two lists is `==`
+pub same-bytes_eq : (s k : List ℕ) → same s k ≡ bytes_eq s k
+unfolding same
+same-bytes_eq [] [] = refl
+same-bytes_eq [] (y ∷ k) = refl
+same-bytes_eq (x ∷ s) [] = refl
+same-bytes_eq (x ∷ s) (y ∷ k) = ap (λ (q : Bool). eqb x y && q) (same-bytes_eq s k)
 
-    go : (q : Bool) → q ≡ ltb m (marks_end n)
-        → MarkIs (record { ok = q; marks = m }) (cond (same bytes (mark_record digits w (marks_in digits bytes)) && ltb (marks_in digits bytes) (marks_end n)) (some (marks_in digits bytes)) none)
-    go true f = rw (z, ← e, ← f) refl
-    go false f = rw (z, ← e, ← f) refl
+-- what `!=` says is what `==` does
+not_same : (p q : Bool) → not p ≡ not q → p ≡ q
+not_same true true e = refl
+not_same false false e = refl
+not_same true false e = sym e
+not_same false true e = sym e
 
-pub read_other : (bytes w : List ℕ) (n m : ℕ) → m ≡ marks_in digits bytes → same bytes (mark_record digits w m) ≡ false → MarkIs (record { ok = false; marks = 0 }) (read_mark digits w n bytes)
-unfolding read_mark
-read_other bytes w n m e s = rw (← e, s) refl
+module _ (bytes w written : List ℕ) (n m : ℕ) (e : m ≡ marks_in digits bytes) (r : written ≡ mark_record digits w m) where
+  -- what is read of a record by what is written for its marks
+  read-is : (eq ok : Bool) → not eq ≡ not (bytes_eq bytes written) → ok ≡ ltb m (marks_end n) → read_mark digits w n bytes ≡ cond (eq && ok) (some m) none
+  unfolding read_mark
+  read-is eq ok s k =
+      rw (← e, same-bytes_eq bytes (mark_record digits w m), ← r, ← not_same eq (bytes_eq bytes written) s, ← k) refl
+
+  -- another record
+  pub read-other : not (bytes_eq bytes written) ≡ true → none ≡ read_mark digits w n bytes
+  read-other s = sym (read-is false (ltb m (marks_end n)) (sym s) refl)
+
+  -- the one written
+  pub read-same : not (bytes_eq bytes written) ≡ false → (ok : Bool) → ok ≡ ltb m (marks_end n) → (o : Option ℕ) → o ≡ then_some ok m → given o ≡ read_mark digits w n bytes
+  read-same s true k o h = rw h (sym (read-is true true (sym s) k))
+  read-same s false k o h = rw h (sym (read-is true false (sym s) k))

@@ -1,7 +1,8 @@
 -- The image of a state, any state: what keeping writes, from its arrays. `image_of_state` of proofs/StateImage.antt: of a state that represents a machine it is that machine's.
 -- Assumes nothing.
-use Rattle.std.specs.Prelude.{List, [], ◌++◌, ◌≡◌, ℕ, zero, suc, ◌-◌, get_or}
+use Rattle.std.specs.Prelude.{List, [], ◌++◌, ◌≡◌, ℕ, zero, suc, ◌-◌, get_or, Result, Ok, Err}
 use Rattle.common.specs.Limits.{max_roles, max_rules}
+use Rattle.common.specs.declared.refusals.Refusal.{Refusal}
 use Rattle.names.specs.Unpacked.{unpacked}
 use Rattle.grammar.specs.AsRead.{role}
 use Rattle.frame.specs.Record.{line_byte}
@@ -12,7 +13,6 @@ use Rattle.render.specs.Decoded.{rule_text}
 use Rattle.render.specs.Records.{text_record, line_record}
 use Rattle.book.specs.Images.{digits, mark_record}
 use Rattle.book.specs.Operations.{kept, kept_in}
-use Rattle.snapshot.specs.declared.keeping.Kept.{Kept}
 
 -- the first n records of f, one after the other
 abbrev pub first_of : (ℕ → List ℕ) → ℕ → List ℕ
@@ -50,6 +50,17 @@ rules_in f = capped max_rules f.sheet.rule_count
 -- the image of a state
 abbrev pub state_image : State → List ℕ
 state_image f = image_from f.sheet.names f.sheet.parents (roles_after_top f) f.sheet.rule_names f.sheet.rows f.positions (rules_in f)
+
+-- document 02's number: 0, or 13 where the buffer is too short; how many records were written; and the monitor, as it was
+pub record Kept : Type 0 where
+  pub number : ℕ
+  pub count : ℕ
+  pub monitor : State
+
+-- "Keeping hands back how many records it wrote"; "13, .. 0 records handed back"
+abbrev pub count_written : Result ℕ Refusal → ℕ
+count_written (Ok n) = n
+count_written (Err e) = 0
 
 -- what keeping promises, of any monitor: the result is that of its image in the lent buffer, and the monitor is as it was
 pub record Keeps (f : State) (lent left : List ℕ) (r : Kept) : Type 0 where

@@ -7,14 +7,14 @@ ghost use Rattle.columns.specs.Writing.{Writes};
 use columns::put;
 
 // The last digit of a number.
+#[tactic(auto, unfolding(book::specs::Images::hex_digit))]
 fn hex_digit(n: u64) -> u8
     ensures { result ≡ hex_digit (n % 16) }
 {
-    let d = (n % 16) as u8;
-    if d < 10 {
-        return 48 + d;
+    match (n % 16) as u8 {
+        d @ 0..=9 => b'0' + d,
+        d => b'A' + (d - 10),
     }
-    55 + d
 }
 
 // The last `count` digits of a number. What falls is the digits left.
@@ -29,36 +29,26 @@ pub fn put_digits(out: &mut [u8], at: usize, count: usize, n: u64) -> usize
 }
 
 // The value of a digit, 0 of any other byte.
+#[tactic(auto, unfolding(book::specs::Restoring::hex_value))]
 fn hex_value(b: u8) -> u64
     ensures { result ≡ hex_value b }
 {
-    if b < 48 {
-        return 0;
+    match b {
+        b'0'..=b'9' => u64::from(b - b'0'),
+        b'A'..=b'F' => u64::from(b - b'A') + 10,
+        _ => 0,
     }
-    if b <= 57 {
-        return (b - 48) as u64;
-    }
-    if b < 65 {
-        return 0;
-    }
-    if b <= 70 {
-        return (b - 55) as u64;
-    }
-    0
 }
 
 // The number in the eight columns from 10 on of a record; where there are fewer bytes, in those that there are.
 pub fn marks_in(bytes: &[u8]) -> u64
     ensures { result ≡ marks_in 8 bytes.now }
 {
-    let mut n: u64 = 0;
-    let mut i: usize = 10;
-    while i < 18 {
-        if bytes.len() <= i {
-            return n;
-        }
-        n = n * 16 + hex_value(bytes[i]);
-        i += 1;
+    let start = bytes.len().min(10);
+    let end = bytes.len().min(18);
+    let mut n = 0;
+    for b in &bytes[start..end] {
+        n = n * 16 + hex_value(*b);
     }
     n
 }

@@ -10,5 +10,5 @@ mod marks;
 mod restoring;
 mod writing;
 
-pub use keeping::{Kept, keep};
+pub use keeping::keep;
 pub use restoring::restore;

@@ -1,77 +1,53 @@
 // The lines of an image, taken by a fresh monitor through the same door as any record.
 ghost use Rattle.snapshot.specs.Reading.{LineInOrder, LineTaken, LinesTaken};
 
+use common::Refusal;
 use common::sizes::RECORD_SIZE;
-use follow::{Declared, State, refused};
+use follow::State;
 use frame::text;
 use intake::{Kind, ask, declare};
 
-// Whether every line was taken; how many bytes they are; and the state that they leave.
-#[derive(Clone, Copy)]
-pub struct Lines {
-    pub ok: bool,
-    pub len: usize,
-    pub state: State,
-}
-
 // The text of a line in its place: a role line stands before every rule line.
-fn in_order(f: State, text: &[u8]) -> Declared
-    ensures { LineInOrder f text.now result }
+fn in_order(state: &mut State, text: &[u8]) -> Result<(), Refusal>
+    ensures { LineInOrder state.old text.now result state.new }
 {
-    let rules = f.sheet.rule_count;
-    let roles = f.sheet.role_count;
-    let d = declare(f, text);
-    if rules == 0 {
-        return d;
+    let rules = state.sheet.rule_count;
+    let roles = state.sheet.role_count;
+    let declared = declare(*state, text);
+    *state = declared.state;
+    if declared.number != 0 {
+        return Err(Refusal::ImageTurnedAway);
     }
-    if d.state.sheet.role_count == roles {
-        return d;
+    if rules == 0 || state.sheet.role_count == roles {
+        Ok(())
+    } else {
+        Err(Refusal::ImageTurnedAway)
     }
-    refused(d.state, 12)
 }
 
 // One record of an image that is to be a line.
-fn take_line(f: State, bytes: &[u8]) -> Declared
-    ensures { LineTaken f bytes.now result }
+fn take_line(state: &mut State, bytes: &[u8]) -> Result<(), Refusal>
+    ensures { LineTaken state.old bytes.now result state.new }
 {
-    let asked = ask(bytes, &f.sheet.names, f.sheet.role_count);
-    let kind = asked.kind;
-    match kind {
-        Kind::Refusal => refused(f, 12),
-        Kind::Line => in_order(f, text(bytes)),
-        Kind::Event => refused(f, 12),
+    match ask(bytes, &state.sheet.names, state.sheet.role_count).kind {
+        Kind::Line => in_order(state, text(bytes)),
+        Kind::Refusal => Err(Refusal::ImageTurnedAway),
+        Kind::Event => Err(Refusal::ImageTurnedAway),
     }
 }
 
-// The records of byte `L` in front of an image, in order.
-pub fn take_lines(image: &[u8]) -> Lines
+// The records of byte `L` in front of an image, in order: the state that they leave in a fresh monitor, and the bytes after them.
+pub fn take_lines(image: &[u8]) -> Result<(State, &[u8]), Refusal>
     ensures { LinesTaken image.now result }
 {
     let mut state = follow::new();
-    let mut at = 0;
-    while RECORD_SIZE <= image.len() - at {
-        if image[at] != b'L' {
-            return Lines {
-                ok: true,
-                len: at,
-                state,
-            };
+    let mut rest = image;
+    while let Some((record, after)) = rest.split_at_checked(RECORD_SIZE) {
+        if record[0] != b'L' {
+            return Ok((state, rest));
         }
-        let end = at + RECORD_SIZE;
-        let taken = take_line(state, &image[at..end]);
-        state = taken.state;
-        if taken.number != 0 {
-            return Lines {
-                ok: false,
-                len: at,
-                state,
-            };
-        }
-        at = end;
+        take_line(&mut state, record)?;
+        rest = after;
     }
-    Lines {
-        ok: true,
-        len: at,
-        state,
-    }
+    Ok((state, rest))
 }

@@ -1,24 +1,15 @@
 // The record of a rule's marks: byte `M`, the name in eight columns, a space, the digits, spaces, the newline. Mark is the format's word; the state's is position.
 ghost use Rattle.std.specs.Prelude.{◌≡◌, ltb};
-ghost use Rattle.std.proofs.Math.Option.{Option};
 ghost use Rattle.names.specs.Unpacked.{unpacked};
 ghost use Rattle.book.specs.Images.{digits, mark_record};
 ghost use Rattle.book.specs.Restoring.{marks_end, read_mark};
-ghost use Rattle.snapshot.specs.Reading.{MarkIs};
+ghost use Rattle.snapshot.specs.Reading.{given};
 
 use crate::digits::{marks_in, put_digits};
 use columns::{blank, put, word};
-use lexer::same;
 
 // How many digits a record has.
 const DIGITS: usize = 8;
-
-// The marks of an `M` record, where it is one of that rule's: whether it is, and the marks.
-#[derive(Clone, Copy)]
-pub struct Mark {
-    pub ok: bool,
-    pub marks: u64,
-}
 
 // The record of a rule's marks, from its packed name.
 pub fn mark_record(name: u64, marks: u64) -> [u8; 128]
@@ -37,24 +28,16 @@ pub fn mark_record(name: u64, marks: u64) -> [u8; 128]
 fn within(marks: u64, n: usize) -> bool
     ensures { result ≡ ltb marks (marks_end n) }
 {
-    if 63 <= n {
-        return true;
-    }
-    marks < (1u64 << (n + 1))
+    63 <= n || marks < (1u64 << (n + 1))
 }
 
 // The marks in a record, where every byte of it is as it is written for a rule of that name and they are among 0 to n.
-pub fn read_mark(bytes: &[u8], name: u64, n: usize) -> Mark
-    ensures { MarkIs result (read_mark digits (unpacked name) n bytes.now) }
+pub fn read_mark(bytes: &[u8], name: u64, n: usize) -> Option<u64>
+    ensures { given result ≡ read_mark digits (unpacked name) n bytes.now }
 {
     let marks = marks_in(bytes);
-    let written = mark_record(name, marks);
-    if same(bytes, &written) {
-        let ok = within(marks, n);
-        return Mark { ok, marks };
+    if bytes != mark_record(name, marks).as_slice() {
+        return None;
     }
-    Mark {
-        ok: false,
-        marks: 0,
-    }
+    within(marks, n).then_some(marks)
 }

@@ -1,99 +1,76 @@
-// The records of an image, from a state's arrays, each laid after the one before as far as there is room.
-ghost use Rattle.std.specs.Prelude.{◌≡◌};
+// The records of an image, from a state, each laid after the one before as far as there is room.
+ghost use Rattle.std.specs.Prelude.{◌≡◌, ◌+◌, ◌^◌, ◌<◌, List, ℕ, get_or};
+ghost use Rattle.names.specs.Unpacked.{unpacked};
+ghost use Rattle.grammar.specs.AsRead.{role};
+ghost use Rattle.render.specs.Records.{line_record};
 ghost use Rattle.columns.specs.Writing.{Writes};
 ghost use Rattle.snapshot.specs.Written.{first_of, parent_in, role_at, rule_at, marks_at, image_from};
 
 use crate::marks::mark_record;
 use columns::text;
-use common::wide;
-use follow::{code_of, number_at, row};
+use follow::{Sheet, State, code_of, number_at, row};
 use render::{role_record, rule_record};
 
-// The packed name of a role's parent.
-fn parent_name<'a>(names: &'a [u64], parents: &'a [u8], i: usize) -> u64
-    ensures { result ≡ parent_in names.now parents.now i }
+// The line of a role, by its id.
+fn role_line(sheet: &Sheet, id: usize) -> [u8; 128]
+    ensures { result ≡ line_record (role (unpacked (get_or sheet.now.names id 0)) (unpacked (parent_in sheet.now.names sheet.now.parents id))) }
 {
-    if i < parents.len() {
-        return number_at(names, wide(parents[i]));
-    }
-    number_at(names, 0)
+    let parent = sheet.parents.get(id).copied().unwrap_or(0);
+    role_record(
+        number_at(&sheet.names, id),
+        number_at(&sheet.names, usize::from(parent)),
+    )
 }
 
-// The role lines of the `count` roles after top.
-fn put_roles<'a>(names: &'a [u64], parents: &'a [u8], count: usize, out: &mut [u8]) -> usize
-    ensures { Writes 0 (first_of (role_at names.now parents.now) count) out.old out.new result }
+// The line of rule i.
+fn rule_line(sheet: &Sheet, i: usize) -> [u8; 128]
+    ensures { result ≡ rule_at sheet.now.names sheet.now.rule_names sheet.now.rows i }
 {
-    let mut next = 0;
-    let mut i: usize = 0;
-    while i < count {
-        let role = i + 1;
-        let name = number_at(names, role);
-        let parent = parent_name(names, parents, role);
-        let line = role_record(name, parent);
-        next = text(out, next, &line);
-        i += 1;
-    }
-    next
+    rule_record(
+        number_at(&sheet.rule_names, i),
+        code_of(row(&sheet.rows, i)),
+        &sheet.names,
+    )
 }
 
-// The rule lines of the first `count` rules.
-fn put_rules<'a>(
-    names: &'a [u64],
-    rule_names: &'a [u64],
-    rows: &'a [u8],
-    count: usize,
-    out: &mut [u8],
-    at: usize,
-) -> usize
-    ensures { Writes at (first_of (rule_at names.now rule_names.now rows.now) count) out.old out.new result }
+// The record of the marks of rule i.
+fn rule_marks(state: &State, i: usize) -> [u8; 128]
+    ensures { result ≡ marks_at state.now.sheet.rule_names state.now.positions i }
+{
+    mark_record(
+        number_at(&state.sheet.rule_names, i),
+        number_at(&state.positions, i),
+    )
+}
+
+// The first `count` records, one after the other; and the place after them.
+fn put_records<F: Fn(usize) -> [u8; 128]>(out: &mut [u8], at: usize, count: usize, line: F) -> usize
+    requires { (i : ℕ) → i < count → F.pre line i }
+    ensures { (f : ℕ → List ℕ) → ((i : ℕ) → i < count → (r : List ℕ) → F.post line i r → r ≡ f i) → Writes at (first_of f count) out.old out.new result }
 {
     let mut next = at;
-    let mut i: usize = 0;
-    while i < count {
-        let name = number_at(rule_names, i);
-        let line = rule_record(name, code_of(row(rows, i)), names);
-        next = text(out, next, &line);
-        i += 1;
-    }
-    next
-}
-
-// The marks of the first `count` rules.
-fn put_marks<'a>(
-    rule_names: &'a [u64],
-    positions: &'a [u64],
-    count: usize,
-    out: &mut [u8],
-    at: usize,
-) -> usize
-    ensures { Writes at (first_of (marks_at rule_names.now positions.now) count) out.old out.new result }
-{
-    let mut next = at;
-    let mut i: usize = 0;
-    while i < count {
-        let name = number_at(rule_names, i);
-        let marks = number_at(positions, i);
-        let line = mark_record(name, marks);
-        next = text(out, next, &line);
-        i += 1;
+    for i in 0..count {
+        next = text(out, next, &line(i));
     }
     next
 }
 
 // The whole image: the lines of the roles after top, the rule lines, and the rules' marks.
-pub fn put_image<'a>(
-    names: &'a [u64],
-    parents: &'a [u8],
-    roles: usize,
-    rule_names: &'a [u64],
-    rows: &'a [u8],
-    positions: &'a [u64],
-    rules: usize,
-    out: &mut [u8],
-) -> usize
-    ensures { Writes 0 (image_from names.now parents.now roles rule_names.now rows.now positions.now rules) out.old out.new result }
+pub fn put_image(state: &State, roles: usize, rules: usize, out: &mut [u8]) -> usize
+    ensures { Writes 0 (image_from state.now.sheet.names state.now.sheet.parents roles state.now.sheet.rule_names state.now.sheet.rows state.now.positions rules) out.old out.new result }
 {
-    let lines = put_roles(names, parents, roles, out);
-    let marks = put_rules(names, rule_names, rows, rules, out, lines);
-    put_marks(rule_names, positions, rules, out, marks)
+    let sheet = &state.sheet;
+    let role = |i: usize|
+        requires { i + 1 < 2 ^ 64 }
+        ensures { result ≡ role_at sheet.entry.now.names sheet.entry.now.parents i }
+    { role_line(sheet, i + 1) };
+    let rule = |i: usize|
+        ensures { result ≡ rule_at sheet.entry.now.names sheet.entry.now.rule_names sheet.entry.now.rows i }
+    { rule_line(sheet, i) };
+    let marks = |i: usize|
+        ensures { result ≡ marks_at state.entry.now.sheet.rule_names state.entry.now.positions i }
+    { rule_marks(state, i) };
+    let rules_at = put_records(out, 0, roles, role);
+    let marks_at = put_records(out, rules_at, rules, rule);
+    put_records(out, marks_at, rules, marks)
 }

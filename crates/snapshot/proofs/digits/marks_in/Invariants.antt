@@ -1,10 +1,6 @@
-use mathlib.Core.Path.{◌≡◌}
-use Prim.Native.Nat.{◌-◌, ◌≤◌}
-use Rattle.snapshot.proofs.DigitLaws.{up_to}
+use Rattle.std.proofs.Common.{◌≡◌, take}
+use Rattle.book.specs.Restoring.{value_from}
 use Rattle.snapshot.proofs.digits.marks_in.Given as goal
 
-abbrev pub invariant-loop-i : goal.invariant-loop-i
-invariant-loop-i l = (10 ≤ l.i) × (l.i ≤ 18) × (l.n ≡ up_to l.i l.bytes)
-
-abbrev pub decreases-loop-i : goal.decreases-loop-i
-decreases-loop-i l = 18 - l.i
+abbrev pub invariant-loop-b : goal.invariant-loop-b
+invariant-loop-b l = l.n ≡ value_from 0 (take l.b-index l.b-items)

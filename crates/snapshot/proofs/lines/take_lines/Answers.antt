@@ -1,26 +1,26 @@
--- `take_lines` meets its contract: the lines before a place are taken. What falls is the bytes left.
+-- `take_lines` meets its contract: the lines before what is left are taken.
 -- Assumes nothing.
-use borrow.Author.Rules.{rules}
-use Rattle.snapshot.proofs.LinesLaws.{taken_none, taken-all, taken-others, taken_more, taken_not}
+use Rattle.snapshot.proofs.LinesLaws.{taken_none, taken-others, taken_more, taken_not}
 use Rattle.snapshot.proofs.lines.take_lines.Goals as goal
 
-pub loop-at-init : goal.loop-at-init
-loop-at-init c = (search rules, taken_none _ _ c.new-state.ensures)
+pub loop-record-init : goal.loop-record-init
+loop-record-init c = taken_none _ _ c.new-state.ensures
 
 -- the first record that is no line
-pub returns-then-image-at-ne76 : goal.returns-then-image-at-ne76
-returns-then-image-at-ne76 c =
-    taken-others _ _ _ c.loop-at.invariant.1 c.loop-at-test.true c.if-image-at-ne76.true
+pub returns-then-record-ne76 : goal.returns-then-record-ne76
+returns-then-record-ne76 c =
+    let p = c.in-Some.ensures.cases in
+    taken-others _ _ c.loop-record.rest c.loop-record.invariant _ _ p.0 p.1 p.2 c.if-record-ne76.true
 
 -- a line that is not taken
-pub returns-then-taken-ne0 : goal.returns-then-taken-ne0
-returns-then-taken-ne0 c =
-    taken_not _ _ _ c.loop-at.invariant.1 c.loop-at-test.true c.if-image-at-ne76.false _ c.take_line-taken.ensures c.if-taken-ne0.true
+pub returns-in_err-take_line : goal.returns-in_err-take_line
+returns-in_err-take_line c =
+    let p = c.in-Some.ensures.cases in
+    let t = c.in_err-take_line.ensures in
+    taken_not _ _ c.loop-record.rest c.loop-record.invariant _ _ p.0 p.1 p.2 c.if-record-ne76.false _ _ t _ c.from_residual.ensures.0
 
-pub loop-at-preserved : goal.loop-at-preserved
-loop-at-preserved c =
-    (search rules, taken_more _ _ _ c.loop-at.invariant.1 c.loop-at-test.true c.if-image-at-ne76.false _ c.take_line-taken.ensures c.if-taken-ne0.false)
-
--- less than a record is left
-pub returns : goal.returns
-returns c = taken-all _ _ _ c.loop-at.invariant.1 c.loop-at-test.false
+pub loop-record-preserved : goal.loop-record-preserved
+loop-record-preserved c =
+    let p = c.in-Some.ensures.cases in
+    let t = c.in_ok-take_line.ensures in
+    taken_more _ _ c.loop-record.rest c.loop-record.invariant _ _ p.0 p.1 p.2 c.if-record-ne76.false _ t

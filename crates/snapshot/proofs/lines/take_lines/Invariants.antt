@@ -1,10 +1,9 @@
-use Prim.Native.Nat.{◌≤◌, ◌-◌}
-use lib.ListN.{length}
+use Rattle.std.proofs.Common.{length}
 use Rattle.snapshot.proofs.LinesLaws.{TakenTo}
 use Rattle.snapshot.proofs.lines.take_lines.Given as goal
 
-abbrev pub invariant-loop-at : goal.invariant-loop-at
-invariant-loop-at l = (l.at ≤ length l.image) × TakenTo l.image l.state l.at
+abbrev pub invariant-loop-record : goal.invariant-loop-record
+invariant-loop-record l = TakenTo l.image l.state l.rest
 
-abbrev pub decreases-loop-at : goal.decreases-loop-at
-decreases-loop-at l = length l.image - l.at
+abbrev pub decreases-loop-record : goal.decreases-loop-record
+decreases-loop-record l = length l.rest

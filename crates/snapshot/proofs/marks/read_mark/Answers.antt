@@ -1,19 +1,11 @@
--- `read_mark` meets its contract: the record is the one that is written for the marks in it, or another.
+-- `read_mark` meets its contract: the record is another than the one that is written for the marks in it, or that one.
 -- Assumes nothing.
-use mathlib.Core.Path.{sym, ap, ◌∙◌}
-use mathlib.Core.List.{List}
-use Prim.Native.Nat.{ℕ}
-use Rattle.lexer.specs.Words.{same}
-use Rattle.names.specs.Unpacked.{unpacked}
-use Rattle.snapshot.proofs.MarkLaws.{read_same, read_other}
+use Rattle.std.proofs.Common.{sym, ◌∙◌}
+use Rattle.snapshot.proofs.MarkLaws.{read-other, read-same}
 use Rattle.snapshot.proofs.marks.read_mark.Goals as goal
 
-pub returns-then-same : goal.returns-then-same
-returns-then-same c =
-    read_same c.args.bytes.now (unpacked c.args.name) c.args.n c.marks_in-marks.result c.within-ok.result c.marks_in-marks.ensures
-    (sym (ap (λ (w : List ℕ). same c.args.bytes.now w) c.mark_record-written.ensures) ∙ sym c.same.ensures ∙ c.if-same.true) c.within-ok.ensures
+pub returns-then-ne : goal.returns-then-ne
+returns-then-ne c = read-other _ _ _ _ _ c.marks_in-marks.ensures (c.as_slice.ensures ∙ c.mark_record.ensures) (sym c.ne.ensures ∙ c.if-ne.true)
 
 pub returns : goal.returns
-returns c =
-    read_other c.args.bytes.now (unpacked c.args.name) c.args.n c.marks_in-marks.result c.marks_in-marks.ensures
-    (sym (ap (λ (w : List ℕ). same c.args.bytes.now w) c.mark_record-written.ensures) ∙ sym c.same.ensures ∙ c.if-same.false)
+returns c = read-same _ _ _ _ _ c.marks_in-marks.ensures (c.as_slice.ensures ∙ c.mark_record.ensures) (sym c.ne.ensures ∙ c.if-ne.false) _ c.within.ensures _ c.then_some.ensures

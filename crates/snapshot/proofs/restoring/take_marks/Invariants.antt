@@ -1,10 +1,6 @@
-use Prim.Native.Nat.{◌-◌}
 use Rattle.snapshot.specs.Reading.{mark_at}
 use Rattle.snapshot.proofs.TakingLaws.{Going}
 use Rattle.snapshot.proofs.restoring.take_marks.Given as goal
 
 abbrev pub invariant-loop-i : goal.invariant-loop-i
-invariant-loop-i l = Going (mark_at l.rule_names l.rows l.records) l.count l.initial.positions l.positions l.i
-
-abbrev pub decreases-loop-i : goal.decreases-loop-i
-decreases-loop-i l = l.count - l.i
+invariant-loop-i l = Going (mark_at l.sheet.rule_names l.sheet.rows l.records) l.count l.initial.positions l.positions l.i
