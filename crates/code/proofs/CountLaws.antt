@@ -1,14 +1,6 @@
 -- Counting the patterns of a past: over its code as the loop goes, and over its tree.
 -- Assumes nothing.
-use mathlib.Core.Path.{◌≡◌, refl, ap, ◌∙◌}
-use mathlib.Core.Bool.{Bool, true, false}
-use mathlib.Core.List.{List, [], ◌∷◌, ◌++◌, append_assoc}
-use Prim.Native.Nat.{ℕ, zero, suc, ◌+◌, ◌<◌, ◌≤◌}
-use native.Mathlib.Numerals.{add-one}
-use native.Mathlib.Omega.{arith}
-use lib.ListN.{length, drop, get_or, replicate, drop_of_length-le}
-use lib.Seq.{drop-cons}
-use borrow.Author.Tests.{eq-eqb, ne_eqb}
+use Rattle.std.proofs.Common.{◌≡◌, refl, ap, ◌∙◌, Bool, true, false, List, [], ◌∷◌, ◌++◌, append_assoc, ℕ, zero, suc, ◌+◌, ◌<◌, ◌≤◌, add-one, arith, length, drop, get_or, replicate, drop_of_length-le, drop-cons, eq-eqb, ne_eqb}
 use Rattle.grammar.specs.Trees.{Items, close, star_close, item, exact, below, Simple, any_event, items, Condition, term, or, Term, negate, simple, inside, Pattern, plain, bracketed, Past, only, either, Sequence, single, beside, Factor, starred, Base, pattern, nothing, group}
 use Rattle.grammar.specs.Size.{size_past, size_sequence, size_factor, size_base}
 use Rattle.code.specs.Trees.{code_items, code_simple, code_condition, code_term, code_pattern, code_past, code_sequence, code_factor, code_base}

@@ -1,18 +1,11 @@
 -- The loop of `encode`: the tokens coded so far, and what is left. And what the code of a text of a record is.
 -- Assumes nothing.
-use mathlib.Core.Path.{◌≡◌, refl, ap, sym, ◌∙◌}
-use mathlib.Core.Bool.{Bool, false, ◌||◌, or-false}
-use mathlib.Core.List.{List, [], ◌∷◌, ◌++◌, append_assoc, append-nil}
-use Prim.Native.Nat.{ℕ, suc, ◌+◌, ◌-◌, ◌<◌, ◌≤◌}
-use native.Mathlib.Omega.{arith}
-use lib.ListN.{length, take, set, replicate, length-append, length-take}
-use lib.Seq.{take_all, take_at}
-use Rattle.lexer.specs.Tokens.{Token, tokens, last}
-use Rattle.lexer.proofs.TokenLaws.{last-all, last-last, last-length}
+use Rattle.std.proofs.Common.{Some, None, Bor, ◌≡◌, refl, ap, sym, ◌∙◌, Bool, false, ◌||◌, List, [], ◌∷◌, ◌++◌, append_assoc, append-nil, ℕ, suc, ◌+◌, ◌-◌, ◌<◌, ◌≤◌, arith, length, take, set, replicate, length-append, length-take, take_all, take_at}
+use mathlib.Core.Bool.{or-false}
+use Rattle.lexer.specs.Tokens.{Token, tokens}
 use Rattle.code.specs.Code.{unheld, codes, any_unheld}
 use Rattle.code.specs.Encoded.{code_size, Front, filled, encoded_of}
 use Rattle.code.specs.declared.encode.Encoded.{Encoded}
-use Rattle.code.specs.declared.encode.Piece.TheVariants.{End, Code}
 use Rattle.code.proofs.Codes.{codes-append}
 use Rattle.code.proofs.Lacks.{missing_append}
 use Rattle.code.proofs.Filling.{filled_more}
@@ -23,47 +16,43 @@ unfolding codes
 codes-length ns [] = refl
 codes-length ns (t ∷ ts) = ap suc (codes-length ns ts)
 
--- so many bytes of code are written, and so many bytes of text are left
-pub record Going (ns s code : List ℕ) (len left : ℕ) (unknown : Bool) : Type 0 where
+-- so many bytes of code are written, and this much of the text is left
+pub record Going (ns s code : List ℕ) (len : ℕ) (left : List ℕ) (unknown : Bool) : Type 0 where
   pub done : List Token
-  pub seen : tokens s ≡ done ++ tokens (last left s)
+  pub seen : tokens s ≡ done ++ tokens left
   pub count : length done ≡ len
   pub short : len ≤ code_size
-  pub room : left ≤ length s
   pub bytes : code ≡ codes ns done ++ replicate (code_size - len) 0
   pub lacking : unknown ≡ any_unheld ns done
 
 module _ (ns s : List ℕ) where
-  pub going_start : (code : List ℕ) → code ≡ replicate code_size 0 → Going ns s code 0 (length s) false
+  pub going_start : (code : List ℕ) → code ≡ replicate code_size 0 → Going ns s code 0 s false
   unfolding codes any_unheld
   going_start code h = record {
     done = [];
-    seen = ap tokens (sym (last-all s));
+    seen = refl;
     count = refl;
     short = omega arith;
-    room = omega arith;
     bytes = h;
     lacking = refl;
   }
 
-  module _ (code : List ℕ) (len left : ℕ) (unknown : Bool) (g : Going ns s code len left unknown) where
-    pub going_shorter : (c n : ℕ) (u : Bool) → Front ns (last left s) (Code c u n) → n < left
+  module _ (code : List ℕ) (len : ℕ) (left : List ℕ) (unknown : Bool) (g : Going ns s code len left unknown) where
+    pub going_shorter : (c : ℕ) (u : Bool) (after : Bor (List ℕ)) → Front ns left (Some (c, u, after)) → length after.now < length left
     unfolding Front
-    going_shorter c n u h = omega (arith, h.0, last-length left s g.room)
+    going_shorter c u after h = h.0
 
-    pub going_more : (c n : ℕ) (u after : Bool) → Front ns (last left s) (Code c u n) → len < code_size → (unknown || u) ≡ after → Going ns s (set code len c) (len + 1) n after
+    pub going_more : (c : ℕ) (u : Bool) (after : Bor (List ℕ)) (lacks : Bool) → Front ns left (Some (c, u, after)) → len < code_size → (unknown || u) ≡ lacks
+        → Going ns s (set code len c) (len + 1) after.now lacks
     unfolding Front codes any_unheld
-    going_more c n u after h fits e =
+    going_more c u after lacks h fits e =
         let t = h.1.0 in
         let ts = g.done in
-        let l : n < left = going_shorter c n u h in
-        let p : tokens (last left s) ≡ t ∷ tokens (last n s) = h.1.1 ∙ ap (λ (v : List ℕ). t ∷ tokens v) (last-last n left s (omega arith) g.room) in
         record {
           done = ts ++ (t ∷ []);
-          seen = g.seen ∙ ap (λ (us : List Token). ts ++ us) p ∙ sym (append_assoc ts (t ∷ []) (tokens (last n s)));
+          seen = g.seen ∙ ap (λ (us : List Token). ts ++ us) h.1.1 ∙ sym (append_assoc ts (t ∷ []) (tokens after.now));
           count = omega (arith, g.count, length-append ts (t ∷ []));
           short = omega arith;
-          room = omega (arith, g.room);
           bytes =
               ap (λ (v : List ℕ). set v len c) g.bytes
               ∙ filled_more code_size len c (codes ns ts) (codes-length ns ts ∙ g.count) fits
@@ -80,7 +69,7 @@ module _ (ns s : List ℕ) where
     unfolding encoded_of filled
     told e = rw (sym e, g.count, g.bytes, g.lacking) refl
 
-    pub going_end : Front ns (last left s) End → record { code = code; len = len; unknown = unknown } ≡ encoded_of ns (tokens s)
+    pub going_end : Front ns left None → record { code = code; len = len; unknown = unknown } ≡ encoded_of ns (tokens s)
     unfolding Front
     going_end h =
         let e : tokens s ≡ g.done = g.seen ∙ ap (λ (ts : List Token). g.done ++ ts) h ∙ append-nil g.done in
@@ -88,7 +77,7 @@ module _ (ns s : List ℕ) where
 
     -- 126 bytes of code are full
     pub going_full : code_size ≤ len → record { code = code; len = len; unknown = unknown } ≡ encoded_of ns (tokens s)
-    going_full full = told (sym (ap (take code_size) g.seen ∙ take_at g.done (tokens (last left s)) code_size (omega (arith, g.count, g.short))))
+    going_full full = told (sym (ap (take code_size) g.seen ∙ take_at g.done (tokens left) code_size (omega (arith, g.count, g.short))))
 
 -- the code has at most 126 bytes
 pub encoded_small : (ns : List ℕ) (ts : List Token) → (encoded_of ns ts).len ≤ code_size

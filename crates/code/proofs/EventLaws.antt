@@ -1,25 +1,34 @@
 -- The loop of `event_line`: the names read so far, and what is left.
 -- Assumes nothing.
-use mathlib.Core.Path.{◌≡◌, refl, ap, sym, ◌∙◌}
-use mathlib.Core.Bool.{Bool, true, false, ◌||◌, or-false}
-use mathlib.Core.List.{List, [], ◌∷◌, ◌++◌, append_assoc, append-nil, map, map-append}
-use Prim.Native.Nat.{ℕ, zero, suc, ◌+◌, ◌-◌, ◌<◌, ◌≤◌}
-use native.Mathlib.Omega.{arith}
-use lib.Dec.{eqb}
-use lib.ListN.{length, set, replicate, length-append, length-map}
+use Rattle.std.proofs.Common.{Some, None, Bor, Ok, Err, ◌≡◌, refl, ap, sym, ◌∙◌, Bool, true, false, ◌||◌, List, [], ◌∷◌, ◌++◌, append_assoc, append-nil, map, ℕ, zero, suc, ◌+◌, ◌-◌, ◌<◌, ◌≤◌, arith, eqb, length, set, replicate, length-append}
+use mathlib.Core.Bool.{or-false}
+use mathlib.Core.List.{map-append}
+use lib.ListN.{length-map}
 use Rattle.common.specs.Limits.{event_size}
-use Rattle.lexer.specs.Tokens.{Token, word, tokens, last}
-use Rattle.lexer.proofs.TokenLaws.{last-all, last-last, last-length}
+use Rattle.common.specs.declared.refusals.Refusal.TheVariants.{NotInLanguage, NotDeclared}
+use Rattle.lexer.specs.Words.{kind_number}
+use Rattle.lexer.specs.Tokens.{Token, word, mark, other, tokens}
+use Rattle.lexer.specs.declared.words.WordKind.{WordKind}
+use Rattle.lexer.specs.declared.words.WordKind.TheVariants as kinds
+use Rattle.lexer.specs.declared.tokens.Lexeme.{Lexeme}
+use Rattle.lexer.specs.declared.tokens.Lexeme.TheVariants.{Word, Mark, Other}
+use Rattle.lexer.proofs.KindNumbers.{kind_number_same}
 use Rattle.grammar.specs.AsRead.{Line, role, rule, event}
 use Rattle.grammar.specs.Spell.{spell_line}
 use Rattle.grammar.specs.Valid.{IsName, ValidLine, ValidNames}
 use Rattle.grammar.specs.Lines.{Says, happens}
 use Rattle.grammar.proofs.Language.{event-taken, event-refused}
 use Rattle.code.specs.Code.{id_of, no_id, unheld_id, lacks}
-use Rattle.code.specs.Events.{NoName, NameAt, no_event, event_told, event_said, event_line_of}
-use Rattle.code.specs.declared.events.Part.TheVariants.{End, Name, Other}
+use Rattle.code.specs.Events.{no_event, event_told, event_said, event_line_of, event_answer}
+use Rattle.code.proofs.FrontLaws.{Begins}
 use Rattle.code.proofs.Lacks.{lacks-append}
 use Rattle.code.proofs.Filling.{filled_more}
+
+-- the token is no name
+abbrev NoName : Token → Type 0
+NoName (word w) = IsName w → ⊥
+NoName (mark b) = Unit {0}
+NoName (other b) = Unit {0}
 
 -- one name more
 names_more : (k : ℕ) (ws : List (List ℕ)) (w : List ℕ) → ValidNames k ws → length ws < k → IsName w → ValidNames k (ws ++ (w ∷ []))
@@ -48,14 +57,13 @@ name-left (suc k) (v ∷ vs) (w ∷ ws) t ts g e =
     let h = name-left k vs ws t ts g.1 q in
     (h.0, omega arith)
 
--- so many ids are written, and so many bytes of text are left
-pub record Going (ns s roles : List ℕ) (len left : ℕ) (unknown : Bool) : Type 0 where
+-- so many ids are written, and this much of the text is left
+pub record Going (ns s roles : List ℕ) (len : ℕ) (left : List ℕ) (unknown : Bool) : Type 0 where
   pub words : List (List ℕ)
   pub names : ValidNames event_size words
-  pub seen : tokens s ≡ map word words ++ tokens (last left s)
+  pub seen : tokens s ≡ map word words ++ tokens left
   pub count : length words ≡ len
   pub small : len ≤ event_size
-  pub room : left ≤ length s
   pub ids : roles ≡ map (id_of ns) words ++ replicate (event_size - len) 0
   pub lacking : unknown ≡ lacks ns words
 
@@ -70,64 +78,80 @@ told_none ns s f = rw ((event-refused s).1 none-says) refl
     none-says (event vs) d h = f vs h
 
 module _ (ns s : List ℕ) where
-  pub going_start : (roles : List ℕ) → roles ≡ replicate event_size 0 → Going ns s roles 0 (length s) false
+  pub going_start : (roles : List ℕ) → roles ≡ replicate event_size 0 → Going ns s roles 0 s false
   unfolding ValidNames lacks
   going_start roles h = record {
     words = [];
     names = tt;
-    seen = ap tokens (sym (last-all s));
+    seen = refl;
     count = refl;
     small = omega arith;
-    room = omega arith;
     ids = h;
     lacking = refl;
   }
 
-  module _ (roles : List ℕ) (len left : ℕ) (unknown : Bool) (g : Going ns s roles len left unknown) where
-    pub going_shorter : (i n : ℕ) → NameAt ns (last left s) (Name i n) → n < left
-    unfolding NameAt
-    going_shorter i n h = omega (arith, h.0, last-length left s g.room)
+  -- a text that is not in the language is answered by refusal 4
+  answered_none : no_event ≡ event_line_of ns s → Err NotInLanguage ≡ event_answer (event_line_of ns s)
+  answered_none e = ap event_answer e
 
-    pub going_more : (i n : ℕ) (after : Bool) → NameAt ns (last left s) (Name i n) → len < event_size → (unknown || eqb i unheld_id) ≡ after → Going ns s (set roles len i) (len + 1) n after
-    unfolding NameAt lacks
-    going_more i n after h fits e =
-        let w = h.1.0 in
+  module _ (roles : List ℕ) (len : ℕ) (left : List ℕ) (unknown : Bool) (g : Going ns s roles len left unknown) where
+    pub going_more : (w : Bor (List ℕ)) (after : Bor (List ℕ)) (i : ℕ) (lacking : Bool) → Begins left (Some (Word kinds.Name w, after)) → i ≡ id_of ns w.now → len < event_size
+        → (unknown || eqb i unheld_id) ≡ lacking → Going ns s (set roles len i) (len + 1) after.now lacking
+    unfolding lacks kind_number
+    going_more w after i lacking h q fits e =
+        let v = w.now in
         let ws = g.words in
-        let l : n < left = going_shorter i n h in
-        let p : tokens (last left s) ≡ word w ∷ tokens (last n s) = h.1.2 ∙ ap (λ (v : List ℕ). word w ∷ tokens v) (last-last n left s (omega arith) g.room) in
         record {
-          words = ws ++ (w ∷ []);
-          names = names_more event_size ws w g.names (omega (arith, g.count)) h.1.1;
-          seen = g.seen ∙ ap (λ (ts : List Token). map word ws ++ ts) p ∙ sym (append_assoc (map word ws) (word w ∷ []) (tokens (last n s))) ∙ ap (λ (ts : List Token). ts ++ tokens (last n s)) (sym (map-append word ws (w ∷ [])));
-          count = omega (arith, g.count, length-append ws (w ∷ []));
+          words = ws ++ (v ∷ []);
+          names = names_more event_size ws v g.names (omega (arith, g.count)) (sym h.2);
+          seen =
+              g.seen
+              ∙ ap (λ (ts : List Token). map word ws ++ ts) h.1
+              ∙ sym (append_assoc (map word ws) (word v ∷ []) (tokens after.now))
+              ∙ ap (λ (ts : List Token). ts ++ tokens after.now) (sym (map-append word ws (v ∷ [])));
+          count = omega (arith, g.count, length-append ws (v ∷ []));
           small = omega arith;
-          room = omega (arith, g.room);
           ids =
-              ap (λ (v : List ℕ). set v len i) g.ids
+              ap (λ (u : List ℕ). set u len i) g.ids
               ∙ filled_more event_size len i (map (id_of ns) ws) (length-map ws (id_of ns) ∙ g.count) fits
-              ∙ ap (λ (v : List ℕ). v ++ replicate (event_size - (len + 1)) 0) (ap (λ (k : ℕ). map (id_of ns) ws ++ (k ∷ [])) h.1.3 ∙ sym (map-append (id_of ns) ws (w ∷ [])));
+              ∙ ap (λ (u : List ℕ). u ++ replicate (event_size - (len + 1)) 0) (ap (λ (k : ℕ). map (id_of ns) ws ++ (k ∷ [])) q ∙ sym (map-append (id_of ns) ws (v ∷ [])));
           lacking =
               sym e
-              ∙ ap (λ (v : Bool). v || eqb i unheld_id) g.lacking
-              ∙ ap (λ (v : Bool). lacks ns ws || v) (ap (λ (k : ℕ). eqb k unheld_id) h.1.3 ∙ sym (or-false (no_id ns w)))
-              ∙ sym (lacks-append ns ws (w ∷ []));
+              ∙ ap (λ (u : Bool). u || eqb i unheld_id) g.lacking
+              ∙ ap (λ (u : Bool). lacks ns ws || u) (ap (λ (k : ℕ). eqb k unheld_id) q ∙ sym (or-false (no_id ns v)))
+              ∙ sym (lacks-append ns ws (v ∷ []));
         }
 
-    pub going_end : NameAt ns (last left s) End → record { fits = true; unknown = unknown; len = len; roles = roles } ≡ event_line_of ns s
-    unfolding NameAt spell_line ValidLine event_said event_told
-    going_end h =
+    -- no token is left: the names are an event
+    told : Begins left None → record { fits = true; unknown = unknown; len = len; roles = roles } ≡ event_line_of ns s
+    unfolding spell_line ValidLine event_said event_told
+    told h =
         let says : Says s (event g.words) = record { valid = g.names; spelled = g.seen ∙ ap (λ (ts : List Token). map word g.words ++ ts) h ∙ append-nil (map word g.words) } in
         rw ((event-taken s (event g.words)).1 (says, refl), g.count, g.ids, g.lacking) refl
 
+    pub going_lacks : Begins left None → unknown ≡ true → Err NotDeclared ≡ event_answer (event_line_of ns s)
+    going_lacks h e = rw e at (ap event_answer (told h))
+
+    pub going_end : Begins left None → unknown ≡ false → Ok (record { len = len; roles = roles }) ≡ event_answer (event_line_of ns s)
+    going_end h e = rw e at (ap event_answer (told h))
+
     -- a token that is left is a name with room for it, where the text says an event
-    left_over : (t : Token) (ts : List Token) → tokens (last left s) ≡ t ∷ ts → (vs : List (List ℕ)) → Says s (event vs) → (NoName t → ⊥) × (length g.words < event_size)
+    left_over : (t : Token) (ts : List Token) → tokens left ≡ t ∷ ts → (vs : List (List ℕ)) → Says s (event vs) → (NoName t → ⊥) × (length g.words < event_size)
     unfolding spell_line ValidLine
     left_over t ts e vs h = name-left event_size vs g.words t ts h.valid (sym h.spelled ∙ g.seen ∙ ap (λ (us : List Token). map word g.words ++ us) e)
 
-    pub going_other : NameAt ns (last left s) Other → no_event ≡ event_line_of ns s
-    unfolding NameAt
-    going_other h = told_none ns s (λ vs k. (left_over h.0 h.1 h.2 vs k).0 h.3)
+    -- a token that is no word
+    pub going_mark : (l : Lexeme) (after : Bor (List ℕ)) → Begins left (Some (l, after)) → ((k : WordKind) (w : Bor (List ℕ)) → l ≡ Word k w → ⊥)
+        → Err NotInLanguage ≡ event_answer (event_line_of ns s)
+    going_mark (Word k w) after h z = absurd (z k w refl)
+    going_mark (Mark b) after h z = answered_none (told_none ns s (λ vs says. (left_over _ _ h.1 vs says).0 tt))
+    going_mark (Other b) after h z = answered_none (told_none ns s (λ vs says. (left_over _ _ h.1 vs says).0 tt))
 
-    pub going_full : (i n : ℕ) → NameAt ns (last left s) (Name i n) → event_size ≤ len → no_event ≡ event_line_of ns s
-    unfolding NameAt
-    going_full i n h full = told_none ns s (λ vs k. omega (arith, (left_over _ _ h.1.2 vs k).1, g.count))
+    -- a word that is no name
+    pub going_word : (k : WordKind) (w after : Bor (List ℕ)) → Begins left (Some (Word k w, after)) → (k ≡ kinds.Name → ⊥) → Err NotInLanguage ≡ event_answer (event_line_of ns s)
+    unfolding kind_number
+    going_word k w after h z = answered_none (told_none ns s (λ vs says. (left_over _ _ h.1 vs says).0 (λ n. z (kind_number_same k kinds.Name (h.2 ∙ n)))))
+
+    -- a fifth name
+    pub going_full : (w after : Bor (List ℕ)) → Begins left (Some (Word kinds.Name w, after)) → event_size ≤ len → Err NotInLanguage ≡ event_answer (event_line_of ns s)
+    going_full w after h full = answered_none (told_none ns s (λ vs says. omega (arith, (left_over _ _ h.1 vs says).1, g.count)))

@@ -1,42 +1,75 @@
--- The first token of a text as code: a law for each answer of `next`.
+-- The first token of a text: what `next` answers of the text's tokens, and that token as code.
 -- Assumes nothing.
-use mathlib.Core.Path.{◌≡◌, refl, ap, sym, ◌∙◌}
-use mathlib.Core.Bool.{false}
-use mathlib.Core.List.{List}
-use Prim.Native.Nat.{ℕ, ◌+◌}
-use lib.Dec.{eqb}
-use borrow.Author.Tests.{eq-eqb, ne_eqb}
-use Rattle.lexer.specs.Words.{kind_of}
-use Rattle.lexer.specs.Tokens.{word, mark, other, first_word, Next}
-use Rattle.lexer.specs.declared.tokens.Lexeme.TheVariants as lexeme
-use Rattle.code.specs.Code.{id_of, byte_of_kind, code_of, unheld}
+use Rattle.std.proofs.Common.{◌≡◌, refl, sym, ◌∙◌, true, false, List, [], ◌∷◌, ℕ, zero, suc, ◌+◌, ◌<◌, ◌≤◌, arith, length, Option, Some, None, Bor, eqb, eq-eqb, ne_eqb}
+use lib.ListN.{get_or-eq_default}
+use Rattle.lexer.specs.Words.{kind_of, kind_number, name_k, zero_k}
+use Rattle.lexer.specs.Tokens.{word, mark, other, tokens, Next}
+use Rattle.lexer.specs.First.{FirstToken, by_numbers, Parts}
+use Rattle.lexer.specs.declared.words.WordKind.{WordKind}
+use Rattle.lexer.specs.declared.words.WordKind.TheVariants as kinds
+use Rattle.lexer.specs.declared.tokens.Lexeme.{Lexeme}
+use Rattle.lexer.specs.declared.tokens.Lexeme.TheVariants.{Word, Mark, Other}
+use Rattle.lexer.proofs.KindNumbers.{kind_number_same}
+use Rattle.lexer.proofs.NextLaws.{next_means}
+use Rattle.code.specs.Code.{id_of, letters, byte_of_kind, code_of, unheld}
 use Rattle.code.specs.Encoded.{Front}
-use Rattle.code.specs.declared.encode.Piece.TheVariants.{End, Code}
 
-module _ (ns s : List ℕ) where
-  pub front_end : Next s lexeme.End → Front ns s End
-  unfolding Next Front
-  front_end h = h
+-- the byte of a digit's word; a kind above those of ten digits has none
+pub digit-byte : (d : ℕ) → d < 10 → 48 + d ≡ byte_of_kind (zero_k + d)
+unfolding byte_of_kind
+digit-byte zero h = refl
+digit-byte (suc zero) h = refl
+digit-byte (suc (suc zero)) h = refl
+digit-byte (suc (suc (suc zero))) h = refl
+digit-byte (suc (suc (suc (suc zero)))) h = refl
+digit-byte (suc (suc (suc (suc (suc zero))))) h = refl
+digit-byte (suc (suc (suc (suc (suc (suc zero)))))) h = refl
+digit-byte (suc (suc (suc (suc (suc (suc (suc zero))))))) h = refl
+digit-byte (suc (suc (suc (suc (suc (suc (suc (suc zero)))))))) h = refl
+digit-byte (suc (suc (suc (suc (suc (suc (suc (suc (suc zero))))))))) h = refl
+digit-byte (suc (suc (suc (suc (suc (suc (suc (suc (suc (suc d)))))))))) h = absurd (omega arith)
 
-  pub front_mark : (b n : ℕ) → Next s (lexeme.Mark b n) → Front ns s (Code b false n)
-  unfolding Next Front code_of unheld
-  front_mark b n h = (h.0, (mark b, h.1, refl, refl))
+pub digit-none : (d : ℕ) → 10 ≤ d → 0 ≡ byte_of_kind (zero_k + d)
+unfolding byte_of_kind
+digit-none d h = let k : 22 ≤ zero_k + d = omega arith in sym (get_or-eq_default letters 0 k)
 
-  pub front_other : (b n : ℕ) → Next s (lexeme.Other b n) → Front ns s (Code 0 false n)
-  unfolding Next Front code_of unheld
-  front_other b n h = (h.0, (other b, h.1, refl, refl))
+-- what an answer of `next` tells: no token; or the first token, and the tokens of what is left, which is shorter
+abbrev pub Begins : List ℕ → Option (Lexeme × Bor (List ℕ)) → Type 0
+Begins s None = tokens s ≡ []
+Begins s (Some (Word k w, left)) = (length left.now < length s) × (tokens s ≡ word w.now ∷ tokens left.now) × (kind_number k ≡ kind_of w.now)
+Begins s (Some (Mark b, left)) = (length left.now < length s) × (tokens s ≡ mark b ∷ tokens left.now)
+Begins s (Some (Other b, left)) = (length left.now < length s) × (tokens s ≡ other b ∷ tokens left.now)
 
-  pub front_letter : (k n : ℕ) → Next s (lexeme.Word k n) → (k ≡ 0 → ⊥) → Front ns s (Code (byte_of_kind k) false n)
-  unfolding Next Front code_of unheld
-  front_letter k n h z =
-      let e = h.1.1 in
-      (h.0, (word h.1.0, h.1.2, rw (e, ne_eqb k 0 z) refl, rw (e, ne_eqb k 0 z) refl))
+begins : (s : List ℕ) (r : Option (Lexeme × Bor (List ℕ))) → Next s (by_numbers r) → Parts s r → Begins s r
+unfolding Next
+begins s None h p = h
+begins s (Some (Word k w, left)) h p =
+    (h.0, h.1.2 ∙ rw (sym p.1, sym (p.0 ∙ h.1.3)) refl, rw (p.0 ∙ h.1.3) (sym h.1.1))
+begins s (Some (Mark b, left)) h p = (h.0, h.1 ∙ rw (sym p) refl)
+begins s (Some (Other b, left)) h p = (h.0, h.1 ∙ rw (sym p) refl)
+
+pub first-begins : {s : List ℕ} {r : Option (Lexeme × Bor (List ℕ))} → FirstToken s r → Begins s r
+first-begins {s} {r} h = begins s r (next_means s (by_numbers r) h.told) h.parts
+
+module _ (ns s : List ℕ) (left : Bor (List ℕ)) where
+  pub front_mark : (b : ℕ) → Begins s (Some (Mark b, left)) → Front ns s (Some (b, false, left))
+  unfolding Front code_of unheld
+  front_mark b h = (h.0, (mark b, h.1, refl, refl))
+
+  pub front_other : (b : ℕ) → Begins s (Some (Other b, left)) → Front ns s (Some (0, false, left))
+  unfolding Front code_of unheld
+  front_other b h = (h.0, (other b, h.1, refl, refl))
+
+  -- a word that is no name
+  pub front_letter : (k : WordKind) (w : Bor (List ℕ)) → Begins s (Some (Word k w, left)) → (k ≡ kinds.Name → ⊥) → Front ns s (Some (byte_of_kind (kind_number k), false, left))
+  unfolding Front code_of unheld kind_number
+  front_letter k w h z =
+      let e : kind_of w.now ≡ name_k → ⊥ = λ q. z (kind_number_same k kinds.Name (h.2 ∙ q)) in
+      (h.0, (word w.now, h.1, rw (ne_eqb (kind_of w.now) 0 e, h.2) refl, rw (ne_eqb (kind_of w.now) 0 e) refl))
 
   -- a name: 128 and its id
-  pub front_name : (k n i : ℕ) (u : List ℕ) → Next s (lexeme.Word k n) → k ≡ 0 → u ≡ first_word s → i ≡ id_of ns u → Front ns s (Code (128 + i) (eqb i 127) n)
-  unfolding Next Front code_of unheld
-  front_name k n i u h z q r =
-      let w = h.1.0 in
-      let e = eq-eqb (kind_of w) 0 (h.1.1 ∙ z) in
-      let p : id_of ns w ≡ i = ap (id_of ns) (sym (q ∙ h.1.3)) ∙ sym r in
-      (h.0, (word w, h.1.2, rw (e, p) refl, rw (e, p) refl))
+  pub front_name : (w : Bor (List ℕ)) (i : ℕ) → Begins s (Some (Word kinds.Name w, left)) → i ≡ id_of ns w.now → Front ns s (Some (128 + i, eqb i 127, left))
+  unfolding Front code_of unheld kind_number
+  front_name w i h r =
+      let e : eqb (kind_of w.now) 0 ≡ true = eq-eqb (kind_of w.now) 0 (sym h.2) in
+      (h.0, (word w.now, h.1, rw (e, r) refl, rw (e, r) refl))

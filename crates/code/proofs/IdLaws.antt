@@ -1,15 +1,9 @@
 -- The id of a name: its place, where the table has it below 127.
 -- Assumes nothing.
-use mathlib.Core.Path.{◌≡◌, refl, sym}
-use mathlib.Core.Bool.{Bool, true, false, not}
-use mathlib.Core.List.{List}
-use Prim.Native.Nat.{ℕ, ◌<◌, ◌≤◌}
-use native.Mathlib.Omega.{arith}
-use lib.Dec.{ltb}
-use lib.ListN.{length}
-use borrow.Author.Tests.{ne_eqb, lt-ltb, le-ltb, ltb-true}
+use Rattle.std.proofs.Common.{Some, None, ◌≡◌, refl, sym, Bool, true, false, not, List, ℕ, ◌<◌, ◌≤◌, arith, ltb, length, ne_eqb, lt-ltb, le-ltb, ltb-true}
 use Rattle.names.specs.Name.{packed}
-use Rattle.names.specs.Place.{place, held}
+use Rattle.names.specs.Place.{place, found, held}
+use Rattle.names.proofs.PlaceLaws.{found-some, found-none, found-place}
 use Rattle.code.specs.Code.{id_of, no_id, unheld_id}
 
 -- a table whose names all have an id: 64 roles now, and ids of 7 bits
@@ -18,19 +12,27 @@ Few ns = length ns ≤ unheld_id
 
 module _ (ns w : List ℕ) where
   -- held, at a place that is an id
-  pub id_place : (at : ℕ) → at ≡ place (packed w) ns → at < length ns → at < unheld_id → at ≡ id_of ns w
+  pub id_place : (at : ℕ) → Some at ≡ found (packed w) ns → at < unheld_id → at ≡ id_of ns w
   unfolding id_of
-  id_place at q l m = rw (sym q, lt-ltb at (length ns) l, lt-ltb at unheld_id m) refl
+  id_place at e m =
+      let q = found-some (packed w) ns at (sym e) in
+      let l : place (packed w) ns < length ns = rw (sym q.0) q.1 in
+      let k : place (packed w) ns < unheld_id = rw (sym q.0) m in
+      rw (lt-ltb (place (packed w) ns) (length ns) l, lt-ltb (place (packed w) ns) unheld_id k) q.0
 
   -- held, at a place that is none
-  pub id_past : (at : ℕ) → at ≡ place (packed w) ns → at < length ns → unheld_id ≤ at → unheld_id ≡ id_of ns w
+  pub id_past : (at : ℕ) → Some at ≡ found (packed w) ns → unheld_id ≤ at → unheld_id ≡ id_of ns w
   unfolding id_of
-  id_past at q l m = rw (sym q, lt-ltb at (length ns) l, le-ltb at unheld_id m) refl
+  id_past at e m =
+      let q = found-some (packed w) ns at (sym e) in
+      let l : place (packed w) ns < length ns = rw (sym q.0) q.1 in
+      let k : unheld_id ≤ place (packed w) ns = rw (sym q.0) m in
+      rw (lt-ltb (place (packed w) ns) (length ns) l, le-ltb (place (packed w) ns) unheld_id k) refl
 
   -- not held
-  pub id_none : (at : ℕ) → at ≡ place (packed w) ns → length ns ≤ at → unheld_id ≡ id_of ns w
+  pub id_none : None ≡ found (packed w) ns → unheld_id ≡ id_of ns w
   unfolding id_of
-  id_none at q l = rw (sym q, le-ltb at (length ns) l) refl
+  id_none e = rw (le-ltb (place (packed w) ns) (length ns) (found-none (packed w) ns (sym e))) refl
 
   id_small : id_of ns w ≤ unheld_id
   unfolding id_of
@@ -46,7 +48,9 @@ module _ (ns w : List ℕ) where
 
   -- a table of few names: the id of a name that is held is its place
   pub id_held : Few ns → held ns w ≡ true → place (packed w) ns ≡ id_of ns w
-  id_held f e = let l = ltb-true (place (packed w) ns) (length ns) e in id_place (place (packed w) ns) refl l (omega arith)
+  id_held f e =
+      let l = ltb-true (place (packed w) ns) (length ns) e in
+      id_place (place (packed w) ns) (sym (found-place (packed w) ns l)) (omega arith)
 
   -- and a name has no id exactly where it is not held
   pub id_tells : Few ns → no_id ns w ≡ not (held ns w)

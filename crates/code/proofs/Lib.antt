@@ -6,5 +6,4 @@ pub mod FrontLaws
 pub mod EncodeLaws
 pub mod CountLaws
 pub mod LineLaws
-pub mod PartLaws
 pub mod EventLaws

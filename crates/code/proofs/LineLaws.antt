@@ -1,24 +1,18 @@
 -- The parts of a line, put together; and what is told of a text that says a line.
 -- Assumes nothing.
-use mathlib.Core.Path.{◌≡◌, refl, ap, sym, ◌∙◌}
-use mathlib.Core.Bool.{Bool, true, false}
-use mathlib.Core.List.{List, [], ◌∷◌, ◌++◌}
-use Prim.Native.Nat.{ℕ, ◌≤◌}
-use native.Mathlib.Omega.{arith}
-use lib.Dec.{leb}
-use lib.ListN.{length, take, drop, length-drop}
-use lib.Seq.{drop-drop}
-use borrow.Author.Tests.{le-leb}
+use Rattle.std.proofs.Common.{Option, Some, None, Bor, MatchOption, ◌≡◌, refl, ap, sym, ◌∙◌, Bool, true, false, List, [], ◌∷◌, ◌++◌, ℕ, ◌≤◌, arith, leb, length, take, drop, length-drop, drop-drop, le-leb}
 use Rattle.common.specs.Limits.{max_patterns}
 use Rattle.lexer.specs.Class.{wordy, spacey, marky}
 use Rattle.lexer.specs.Run.{run, after}
 use Rattle.lexer.specs.Tokens.{Token, tokens, tokens_from, first_word, lexeme_of, Next}
-use Rattle.lexer.specs.declared.tokens.Lexeme.{Lexeme}
-use Rattle.lexer.specs.declared.tokens.Lexeme.TheVariants.{End, Word, Mark, Other}
+use Rattle.lexer.specs.Lexeme.{Lexeme, End, Word, Mark, Other}
+use Rattle.lexer.specs.First.{FirstToken, by_numbers, Parts}
+use Rattle.lexer.specs.declared.tokens.Lexeme.{Lexeme as Found}
+use Rattle.lexer.specs.declared.tokens.Lexeme.TheVariants as in_front
 use Rattle.lexer.proofs.NextLaws.{next_means}
 use Rattle.lexer.proofs.TokenLaws.{tokens_after_spaces, tokens-word, tokens-mark, tokens-other, tokens-length}
 use Rattle.names.specs.Name.{packed}
-use Rattle.names.specs.Place.{place}
+use Rattle.names.specs.Place.{found}
 use Rattle.grammar.specs.Trees as trees
 use Rattle.grammar.specs.AsRead.{Past, Pattern, Response, rule, role}
 use Rattle.grammar.specs.Rename.{map_past, map_pattern, map_response}
@@ -41,9 +35,15 @@ use Rattle.code.proofs.Lacks.{rule-lacks}
 use Rattle.code.proofs.EncodeLaws.{encoded_small, encoded_codes, encoded_unknown}
 
 -- what is left after the first token, by any answer of `next`
-pub after_first_is : (s r : List ℕ) (l : Lexeme) → l ≡ lexeme_of s → r ≡ left_by l s → r ≡ after_first s
+left_is : (s : List ℕ) (r : Option (Found × Bor (List ℕ))) → by_numbers r ≡ lexeme_of s → Parts s r → MatchOption r (s ≡ after_first s) (λ p. p.1.now ≡ after_first s)
 unfolding after_first
-after_first_is s r l e q = q ∙ ap (λ (m : Lexeme). left_by m s) e
+left_is s None e p = ap (λ (m : Lexeme). left_by m s) e
+left_is s (Some (in_front.Word k w, left)) e p = p.1 ∙ ap (λ (m : Lexeme). left_by m s) e
+left_is s (Some (in_front.Mark b, left)) e p = p ∙ ap (λ (m : Lexeme). left_by m s) e
+left_is s (Some (in_front.Other b, left)) e p = p ∙ ap (λ (m : Lexeme). left_by m s) e
+
+pub after_first_is : {s : List ℕ} {r : Option (Found × Bor (List ℕ))} → FirstToken s r → MatchOption r (s ≡ after_first s) (λ p. p.1.now ≡ after_first s)
+after_first_is {s} {r} h = left_is s r h.told h.parts
 
 left-tokens : (s : List ℕ) (l : Lexeme) → Next s l → tokens (left_by l s) ≡ drop 1 (tokens s)
 unfolding Next
@@ -96,11 +96,11 @@ module _ (ns s second third fourth : List ℕ) (a : second ≡ after_first s) (b
       let g = f ∙ ap few_in q in
       λ i. record { name = m i; fits = g i; body = q i }
 
-  pub role_read : (name parent x : ℕ) → name ≡ name_in 0 second → x ≡ name_in 0 fourth → parent ≡ place x ns → record { name = name; parent = parent } ≡ role_line_of ns s
+  pub role_read : (name : ℕ) (parent : Option ℕ) (x : ℕ) → name ≡ name_in 0 second → x ≡ name_in 0 fourth → parent ≡ found x ns → record { name = name; parent = parent } ≡ role_line_of ns s
   unfolding role_line_of
   role_read name parent x n m f =
       let p = n ∙ second_name in
-      let q : parent ≡ place (name_in 3 s) ns = f ∙ ap (λ (y : ℕ). place y ns) (m ∙ ap (λ (ts : List Token). packed (leading_word ts)) fourth_is) in
+      let q : parent ≡ found (name_in 3 s) ns = f ∙ ap (λ (y : ℕ). found y ns) (m ∙ ap (λ (ts : List Token). packed (leading_word ts)) fourth_is) in
       λ i. record { name = p i; parent = q i }
 
 -- what is told of a text that says a rule: its name; its code, that of its tree with ids; whether it names a role that has no id (refusal 6); whether its
@@ -133,14 +133,14 @@ rule_told ns s l w p q x h =
       fits = few-told _ (encoded_small ns ts) (map_past (id_of ns) p) _ k ∙ ap (λ (m : ℕ). leb m max_patterns) (size-map (id_of ns) p);
     }
 
--- what is told of a text that says a role: its name, and the place of its parent among those held
+-- what is told of a text that says a role: its name, and the place of its parent among those held, where it is held
 pub record RoleTold (ns w p : List ℕ) (r : RoleLine) : Type 0 where
   pub name : r.name ≡ packed w
-  pub parent : r.parent ≡ place (packed p) ns
+  pub parent : r.parent ≡ found (packed p) ns
 
 pub role-told : (ns s w p : List ℕ) → Says s (role w p) → RoleTold ns w p (role_line_of ns s)
 unfolding role_line_of spell_line
 role-told ns s w p h = record {
   name = ap (λ (us : List Token). packed (leading_word (drop 1 us))) h.spelled;
-  parent = ap (λ (us : List Token). place (packed (leading_word (drop 3 us))) ns) h.spelled;
+  parent = ap (λ (us : List Token). found (packed (leading_word (drop 3 us))) ns) h.spelled;
 }

@@ -1,28 +1,25 @@
 -- What reading an event's text tells, with ids for the names held.
 -- Assumes nothing.
-use Rattle.std.specs.Prelude.{◌≡◌, true, false, List, [], ◌∷◌, ◌++◌, map, ℕ, ◌-◌, ◌<◌, length, replicate}
+use Rattle.std.specs.Prelude.{Bool, true, false, cond, List, [], ◌∷◌, ◌++◌, map, ℕ, ◌-◌, leb, length, take, replicate, Result, Ok, Err}
 use Rattle.std.proofs.Math.Option.{Option, none, some}
 use Rattle.common.specs.Limits.{event_size}
-use Rattle.lexer.specs.Tokens.{Token, word, mark, other, tokens, last}
+use Rattle.common.specs.declared.refusals.Refusal.{Refusal}
+use Rattle.common.specs.declared.refusals.Refusal.TheVariants.{NotInLanguage, NotDeclared}
 use Rattle.grammar.specs.AsRead.{Line, role, rule, event}
-use Rattle.grammar.specs.Valid.{IsName}
 use Rattle.grammar.specs.Lines.{read_event}
 use Rattle.code.specs.Code.{id_of, lacks}
-use Rattle.code.specs.declared.events.EventLine.{EventLine}
-use Rattle.code.specs.declared.events.Part.{Part}
-use Rattle.code.specs.declared.events.Part.TheVariants.{End, Name, Other}
+use Rattle.code.specs.declared.events.Event.{Event}
 
--- the token is no name
-abbrev pub NoName : Token → Type 0
-NoName (word w) = IsName w → ⊥
-NoName (mark b) = Unit {0}
-NoName (other b) = Unit {0}
+-- the roles of an event (document 01: act), as ids: the first four where its length is more than that
+abbrev pub event_of : Event → List ℕ
+event_of e = take (cond (leb e.len event_size) e.len event_size) e.roles
 
--- what a text begins with: no token; a name, by its id, and how much is left after it; or a token that is no name
-unfoldable pub NameAt : List ℕ → List ℕ → Part → Type 0
-NameAt ns s End = tokens s ≡ []
-NameAt ns s (Name i n) = (n < length s) × ((w : List ℕ) × IsName w × (tokens s ≡ word w ∷ tokens (last n s)) × (i ≡ id_of ns w))
-NameAt ns s Other = (t : Token) × (ts : List Token) × (tokens s ≡ t ∷ ts) × NoName t
+-- what an event's text tells: whether it is in the language; if it is, whether one of its names has no id, and the ids of its roles, of which len count
+pub record EventLine : Type 0 where
+  pub fits : Bool
+  pub unknown : Bool
+  pub len : ℕ
+  pub roles : List ℕ
 
 -- what is told of a text that is not in the language
 abbrev pub no_event : EventLine
@@ -42,3 +39,7 @@ event_said ns (some (event ws)) = event_told ns ws
 -- what is told of any text
 abbrev pub event_line_of : List ℕ → List ℕ → EventLine
 event_line_of ns s = event_said ns (read_event s)
+
+-- what is told, as the code answers it: refusal 4, refusal 6, or the event
+abbrev pub event_answer : EventLine → Result Event Refusal
+event_answer l = cond l.fits (cond l.unknown (Err NotDeclared) (Ok (record { len = l.len; roles = l.roles }))) (Err NotInLanguage)

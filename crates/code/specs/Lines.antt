@@ -3,10 +3,9 @@
 use Rattle.std.specs.Prelude.{Bool, false, ◌&&◌, List, [], ◌∷◌, ℕ, leb, take, drop}
 use Rattle.common.specs.Limits.{max_patterns}
 use Rattle.lexer.specs.Tokens.{Token, word, mark, other, tokens, last, lexeme_of}
-use Rattle.lexer.specs.declared.tokens.Lexeme.{Lexeme}
-use Rattle.lexer.specs.declared.tokens.Lexeme.TheVariants.{End, Word, Mark, Other}
+use Rattle.lexer.specs.Lexeme.{Lexeme, End, Word, Mark, Other}
 use Rattle.names.specs.Name.{packed}
-use Rattle.names.specs.Place.{place}
+use Rattle.names.specs.Place.{found}
 use Rattle.code.specs.Encoded.{code_size, encoded_of}
 use Rattle.code.specs.Count.{patterns_from}
 use Rattle.code.specs.declared.encode.Encoded.{Encoded}
@@ -43,6 +42,6 @@ few_in b = leb b.len code_size && leb (patterns_from false (take b.len b.code)) 
 unfoldable pub rule_line_of : List ℕ → List ℕ → RuleLine
 rule_line_of ns s = record { name = name_in 1 s; fits = few_in (encoded_of ns (drop 3 (tokens s))); body = encoded_of ns (drop 3 (tokens s)) }
 
--- "role, a name, under, a name (its parent)": the name is token 1, and the parent token 3, told by its place among the names held
+-- "role, a name, under, a name (its parent)": the name is token 1, and the parent token 3, told by its place among the names held, where it is held
 unfoldable pub role_line_of : List ℕ → List ℕ → RoleLine
-role_line_of ns s = record { name = name_in 1 s; parent = place (name_in 3 s) ns }
+role_line_of ns s = record { name = name_in 1 s; parent = found (name_in 3 s) ns }

@@ -2,33 +2,24 @@
 ghost use Rattle.std.specs.Prelude.{◌≡◌, false};
 ghost use Rattle.code.specs.Count.{begins, more, goes_inside, patterns_from};
 
+// What ends a past.
+const END: u8 = b';';
+
 // 1 where a byte begins a pattern, inside square brackets or not, and 0 elsewhere.
-fn begun(inside: bool, b: u8) -> usize
-    ensures { result ≡ more (begins inside b) 0 }
+fn begun(inside: bool, byte: u8) -> usize
+    ensures { result ≡ more (begins inside byte) 0 }
 {
-    if inside {
-        return 0;
+    match byte {
+        b'a' | b'<' | b'[' if !inside => 1,
+        _ => 0,
     }
-    if b == b'a' {
-        return 1;
-    }
-    if b == b'<' {
-        return 1;
-    }
-    if b == b'[' {
-        return 1;
-    }
-    0
 }
 
 // Whether the next byte stands inside square brackets.
-fn goes_inside(inside: bool, b: u8) -> bool
-    ensures { result ≡ goes_inside inside b }
+fn goes_inside(inside: bool, byte: u8) -> bool
+    ensures { result ≡ goes_inside inside byte }
 {
-    if inside {
-        return b != b']';
-    }
-    b == b'['
+    if inside { byte != b']' } else { byte == b'[' }
 }
 
 // How many patterns begin before the first `;`.
@@ -36,16 +27,13 @@ pub fn patterns(code: &[u8]) -> usize
     ensures { result ≡ patterns_from false code.now }
 {
     let mut inside = false;
-    let mut n: usize = 0;
-    let mut i: usize = 0;
-    while i < code.len() {
-        let b = code[i];
-        if b == b';' {
-            return n;
+    let mut count = 0;
+    for &byte in code {
+        if byte == END {
+            return count;
         }
-        n += begun(inside, b);
-        inside = goes_inside(inside, b);
-        i += 1;
+        count += begun(inside, byte);
+        inside = goes_inside(inside, byte);
     }
-    n
+    count
 }

@@ -1,60 +1,66 @@
 // Tokens to code, in one flat pass.
 ghost use Rattle.std.specs.Prelude.{◌≡◌};
-ghost use Rattle.code.specs.Code.{byte_of_kind};
+ghost use Rattle.lexer.specs.Words.{kind_number};
 ghost use Rattle.lexer.specs.Tokens.{tokens};
-ghost use Rattle.code.specs.Encoded.{Front, encoded_of};
+ghost use Rattle.code.specs.Code.{byte_of_kind};
+ghost use Rattle.code.specs.Encoded.{Front, LendsCounted, encoded_of};
 
 use crate::ids::{UNHELD, id_of};
-use lexer::words::NAME;
-use lexer::{Lexeme, first_word, next, rest};
+use lexer::{Lexeme, WordKind, next};
 
-// The byte of each kind of word: a keyword's letter, or the digit.
-const LETTERS: [u8; 22] = [
-    0, 0, 0, 0, b'a', b'n', b'o', b'p', b'h', b's', b'w', 0, b'0', b'1', b'2', b'3', b'4', b'5',
-    b'6', b'7', b'8', b'9',
-];
+// A text of a record has no more bytes, and so no more tokens.
+const CODE_SIZE: usize = 126;
 
-// The code of a text: its length, its bytes, and whether a name in it is not held.
+// The code of a text: its bytes, how many of them count, and whether a name in it is not held.
 #[derive(Clone, Copy)]
 pub struct Encoded {
-    pub code: [u8; 126],
+    pub code: [u8; CODE_SIZE],
     pub len: usize,
     pub unknown: bool,
 }
 
-// What a text begins with: no token; or its byte of code, whether it is a name that is not held, and how many bytes are left after it.
-#[derive(Clone, Copy)]
-pub enum Piece {
-    End,
-    Code(u8, bool, usize),
-}
-
-// The byte of a word that is no name, by its kind.
-fn letter(k: u8) -> u8
-    ensures { result ≡ byte_of_kind k }
-{
-    if k < 22 {
-        return LETTERS[k as usize];
+impl Encoded {
+    // The bytes that count; None where the length is more than a code has.
+    pub fn bytes(&self) -> Option<&[u8]>
+        ensures { LendsCounted self.now result }
+    {
+        self.code.get(..self.len)
     }
-    0
 }
 
-// The first token of a text, as code.
-fn front(s: &[u8], names: &[u64]) -> Piece
-    ensures { Front names.now s.now result }
+// The byte of a word that is no name, by its kind: a keyword's letter, or the digit.
+#[tactic(auto, unfolding(crate::specs::Code::byte_of_kind, lexer::specs::Words::kind_number))]
+fn letter(kind: WordKind) -> u8
+    ensures { result ≡ byte_of_kind (kind_number kind) }
 {
-    match next(s) {
-        Lexeme::End => Piece::End,
-        Lexeme::Mark(b, n) => Piece::Code(b, false, n),
-        Lexeme::Other(b, n) => Piece::Code(0, false, n),
-        Lexeme::Word(k, n) => {
-            if k == NAME {
-                let i = id_of(first_word(s), names);
-                return Piece::Code(128 + i, i == UNHELD, n);
+    match kind {
+        WordKind::Any => b'a',
+        WordKind::Not => b'n',
+        WordKind::Or => b'o',
+        WordKind::Pass => b'p',
+        WordKind::Hold => b'h',
+        WordKind::Send => b's',
+        WordKind::Anew => b'w',
+        WordKind::Digit(digit) if digit < 10 => b'0' + digit,
+        _ => 0,
+    }
+}
+
+// The first token of a text as code: its byte, whether it is a name that is not held, and what is left after it. None where no token is left.
+fn front<'a>(text: &'a [u8], names: &[u64]) -> Option<(u8, bool, &'a [u8])>
+    ensures { Front names.now text.now result }
+{
+    let (lexeme, left) = next(text)?;
+    match lexeme {
+        Lexeme::Word(kind, word) => match kind {
+            WordKind::Name => {
+                let id = id_of(word, names);
+                Some((128 + id, id == UNHELD, left))
             }
-            let c = letter(k);
-            Piece::Code(c, false, n)
-        }
+            _ => Some((letter(kind), false, left)),
+        },
+        Lexeme::Mark(byte) => Some((byte, false, left)),
+        Lexeme::Other(_) => Some((0, false, left)),
     }
 }
 
@@ -62,31 +68,18 @@ fn front(s: &[u8], names: &[u64]) -> Piece
 pub fn encode(text: &[u8], names: &[u64]) -> Encoded
     ensures { result ≡ encoded_of names.now (tokens text.now) }
 {
-    let mut code = [0u8; 126];
-    let mut len: usize = 0;
-    let mut left = text.len();
+    let mut code = [0u8; CODE_SIZE];
+    let mut len = 0;
     let mut unknown = false;
-    loop {
-        let s = rest(text, left);
-        let Piece::Code(c, u, n) = front(s, names) else {
-            return Encoded {
-                code: code,
-                len: len,
-                unknown: unknown,
-            };
-        };
-        if 126 <= len {
-            return Encoded {
-                code: code,
-                len: len,
-                unknown: unknown,
-            };
+    let mut left = text;
+    while let Some((byte, unheld, after)) = front(left, names) {
+        if CODE_SIZE <= len {
+            break;
         }
-        code[len] = c;
+        code[len] = byte;
         len += 1;
-        left = n;
-        if u {
-            unknown = true;
-        }
+        unknown |= unheld;
+        left = after;
     }
+    Encoded { code, len, unknown }
 }

@@ -2,18 +2,19 @@
 ghost use Rattle.std.specs.Prelude.{◌≡◌};
 ghost use Rattle.code.specs.Code.{id_of};
 
-// The id that no role has: of a name that is not held, and of one held past the ids of seven bits.
+// The id that no role has: of a name that is not held, and of one held past the ids of seven bits. It is part of the code itself: a row and an
+// image keep it as byte 255.
 pub const UNHELD: u8 = 127;
 
+// How many ids of seven bits there are besides that one.
+const IDS: usize = 127;
+
 // The id of a name: its place among those held, where that is an id of seven bits.
-pub fn id_of(w: &[u8], names: &[u64]) -> u8
-    ensures { result ≡ id_of names.now w.now }
+pub fn id_of(word: &[u8], names: &[u64]) -> u8
+    ensures { result ≡ id_of names.now word.now }
 {
-    let at = names::find(names, names::pack(w));
-    if at < names.len() {
-        if at < 127 {
-            return at as u8;
-        }
+    match names::find(names, names::pack(word)) {
+        Some(place) if place < IDS => place as u8,
+        _ => UNHELD,
     }
-    UNHELD
 }

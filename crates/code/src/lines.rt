@@ -5,7 +5,7 @@ ghost use Rattle.code.specs.Lines.{after_first, name_in, few_in, rule_line_of, r
 use crate::count::patterns;
 use crate::encode::{Encoded, encode};
 use common::sizes::MAX_PATTERNS;
-use lexer::{Lexeme, first_word, next, rest};
+use lexer::{first_word, next};
 
 // A rule line: its name, its code after `rule NAME :`, and whether its past has few enough patterns.
 #[derive(Clone, Copy)]
@@ -15,42 +15,38 @@ pub struct RuleLine {
     pub body: Encoded,
 }
 
-// A role line: its name, and its parent's place among the names held, or how many are held.
+// A role line: its name, and its parent's place among the names held.
 #[derive(Clone, Copy)]
 pub struct RoleLine {
     pub name: u64,
-    pub parent: usize,
+    pub parent: Option<usize>,
 }
 
 // What is left after the first token; all of it where there is none.
-fn after_first(s: &[u8]) -> &[u8]
-    ensures { result.now ≡ after_first s.now }
+fn after_first(text: &[u8]) -> &[u8]
+    ensures { result.now ≡ after_first text.now }
 {
-    match next(s) {
-        Lexeme::End => s,
-        Lexeme::Word(k, n) => rest(s, n),
-        Lexeme::Mark(b, n) => rest(s, n),
-        Lexeme::Other(b, n) => rest(s, n),
+    match next(text) {
+        Some((_, left)) => left,
+        None => text,
     }
 }
 
 // The word in front, packed.
-fn leading(s: &[u8]) -> u64
-    ensures { result ≡ name_in 0 s.now }
+fn leading(text: &[u8]) -> u64
+    ensures { result ≡ name_in 0 text.now }
 {
-    names::pack(first_word(s))
+    names::pack(first_word(text))
 }
 
 // Whether a rule's past has few enough patterns. Refusal 7 stands here alone.
-fn few(body: Encoded) -> bool
-    ensures { result ≡ few_in body }
+fn few(body: &Encoded) -> bool
+    ensures { result ≡ few_in body.now }
 {
-    let code = body.code;
-    let len = body.len;
-    if 126 < len {
-        return false;
+    match body.bytes() {
+        Some(code) => patterns(code) <= MAX_PATTERNS,
+        None => false,
     }
-    patterns(&code[..len]) <= MAX_PATTERNS
 }
 
 // A rule line, read: the name after the first word, and the code of what stands after the name and the colon.
@@ -61,12 +57,8 @@ pub fn rule_line(text: &[u8], names: &[u64]) -> RuleLine
     let name = leading(named);
     let colon = after_first(named);
     let body = encode(after_first(colon), names);
-    let fits = few(body);
-    RuleLine {
-        name: name,
-        fits: fits,
-        body: body,
-    }
+    let fits = few(&body);
+    RuleLine { name, fits, body }
 }
 
 // A role line, read: the name after the first word, and the name after the third.
@@ -77,8 +69,5 @@ pub fn role_line(text: &[u8], names: &[u64]) -> RoleLine
     let name = leading(second);
     let under = after_first(second);
     let parent = names::find(names, leading(after_first(under)));
-    RoleLine {
-        name: name,
-        parent: parent,
-    }
+    RoleLine { name, parent }
 }

@@ -1,13 +1,13 @@
 -- Laws of the place of a packed name among those held.
 -- Assumes nothing.
-use Rattle.std.proofs.Common.{◌≡◌, refl, sym, Bool, true, false, cond, not, ◌||◌, List, [], ◌∷◌, ◌↔◌, ℕ, zero, suc, ◌+◌, ◌<◌, ◌≤◌, arith, eqb, ltb, length, get_or, eqb-true, eq-eqb, ne_eqb, lt-ltb, le-ltb}
+use Rattle.std.proofs.Common.{◌≡◌, refl, sym, Bool, true, false, cond, not, ◌||◌, List, [], ◌∷◌, ◌↔◌, ℕ, zero, suc, ◌+◌, ◌<◌, ◌≤◌, arith, eqb, ltb, length, get_or, eqb-true, eq-eqb, ne_eqb, lt-ltb, le-ltb, ltb-true, ltb-false, Option, Some, None}
 use Prim.Native.Nat.compare
 use borrow.Author.Tests.{eqb-false}
 use Rattle.std.specs.List.{position_or_len}
 use Rattle.std.proofs.lemmas.List.Recursion.{is_position_or_len}
 use Rattle.lexer.specs.Class.{among}
 use Rattle.lexer.specs.Run.{run}
-use Rattle.names.specs.Place.{differs, place}
+use Rattle.names.specs.Place.{differs, place, found}
 
 module _ (x : ℕ) where
   -- one step along the list
@@ -58,3 +58,23 @@ module _ (x : ℕ) where
       step : (b : Bool) (n : ℕ) (ns : List ℕ) → length (cond (not b) (n ∷ run (differs x) ns) []) ≡ cond b 0 (1 + place x ns)
       step true n ns = refl
       step false n ns = omega arith
+
+  -- what is found is the place, which is below the length
+  pub found-some : (ns : List ℕ) (i : ℕ) → found x ns ≡ Some i → (i ≡ place x ns) × (i < length ns)
+  found-some ns i = go (ltb (place x ns) (length ns)) refl
+    where
+      go : (b : Bool) → ltb (place x ns) (length ns) ≡ b → cond b (Some (place x ns)) None ≡ Some i → (i ≡ place x ns) × (i < length ns)
+      go true e f = let q : i ≡ place x ns = cc in (q, rw q (ltb-true (place x ns) (length ns) e))
+      go false e f = absurd (cc)
+
+  -- where nothing is found, the place is the length
+  pub found-none : (ns : List ℕ) → found x ns ≡ None → length ns ≤ place x ns
+  found-none ns = go (ltb (place x ns) (length ns)) refl
+    where
+      go : (b : Bool) → ltb (place x ns) (length ns) ≡ b → cond b (Some (place x ns)) None ≡ None → length ns ≤ place x ns
+      go true e f = absurd (cc)
+      go false e f = ltb-false (place x ns) (length ns) e
+
+  -- a place below the length is found
+  pub found-place : (ns : List ℕ) → place x ns < length ns → found x ns ≡ Some (place x ns)
+  found-place ns h = rw (lt-ltb (place x ns) (length ns) h) refl

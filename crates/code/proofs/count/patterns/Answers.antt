@@ -1,35 +1,24 @@
 -- `patterns` meets its contract: what is counted so far and what is left to count make the whole.
 -- Assumes nothing.
-use native.Mathlib.Omega.{arith}
-use lib.ListN.{get_or}
+use Rattle.std.proofs.Common.{arith, get_or}
 use Rattle.code.specs.Count.{begins}
 use Rattle.code.proofs.CountLaws.{count_stop, count-more, count-end, more-small}
 use Rattle.code.proofs.count.patterns.Goals as goal
 
-pub loop-i-init : goal.loop-i-init
-loop-i-init c = (omega arith, omega arith, omega arith)
-
-pub returns-then-b-eq59 : goal.returns-then-b-eq59
-returns-then-b-eq59 c =
-    let code = c.args.code.now in
-    let z = count_stop code c.loop-i.i c.loop-i.inside c.loop-i-test.true c.if-b-eq59.true in
+pub returns-then-byte-eq-END : goal.returns-then-byte-eq-END
+returns-then-byte-eq-END c =
+    let z = count_stop c.args.code.now c.loop-byte.byte-index c.loop-byte.inside c.loop-byte-test.true c.if-byte-eq-END.true in
     omega arith
 
-pub overflow_add-n : goal.overflow_add-n
-overflow_add-n c =
-    let q = more-small (begins c.loop-i.inside (get_or c.args.code.now c.loop-i.i 0)) in
-    omega (arith, c.begun-n.ensures)
-
-pub loop-i-preserved : goal.loop-i-preserved
-loop-i-preserved c =
+pub loop-byte-preserved : goal.loop-byte-preserved
+loop-byte-preserved c =
     let code = c.args.code.now in
-    let q = more-small (begins c.loop-i.inside (get_or code c.loop-i.i 0)) in
-    let m = count-more code c.loop-i.i c.loop-i.inside c.loop-i-test.true c.if-b-eq59.false in
-    let e = c.begun-n.ensures in
-    (omega arith, omega arith, rw c.goes_inside-inside.ensures (omega arith))
+    let q = more-small (begins c.loop-byte.inside (get_or code c.loop-byte.byte-index 0)) in
+    let m = count-more code c.loop-byte.byte-index c.loop-byte.inside c.loop-byte-test.true c.if-byte-eq-END.false in
+    let e = c.begun-count.ensures in
+    (omega arith, rw c.goes_inside-inside.ensures (omega arith))
 
 pub returns : goal.returns
 returns c =
-    let code = c.args.code.now in
-    let z = count-end code c.loop-i.i c.loop-i.inside c.loop-i-test.false in
+    let z = count-end c.args.code.now c.loop-byte.byte-index c.loop-byte.inside c.loop-byte-test.false in
     omega arith

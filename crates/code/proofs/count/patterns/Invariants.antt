@@ -1,12 +1,6 @@
-use mathlib.Core.Path.{◌≡◌}
-use mathlib.Core.Bool.{false}
-use Prim.Native.Nat.{◌+◌, ◌-◌, ◌≤◌}
-use lib.ListN.{length, drop}
+use Rattle.std.proofs.Common.{◌≡◌, ◌+◌, ◌≤◌, false, drop}
 use Rattle.code.specs.Count.{patterns_from}
 use Rattle.code.proofs.count.patterns.Given as goal
 
-abbrev pub invariant-loop-i : goal.invariant-loop-i
-invariant-loop-i l = (l.i ≤ length l.code) × (l.n ≤ l.i) × (l.n + patterns_from l.inside (drop l.i l.code) ≡ patterns_from false l.code)
-
-abbrev pub decreases-loop-i : goal.decreases-loop-i
-decreases-loop-i l = length l.code - l.i
+abbrev pub invariant-loop-byte : goal.invariant-loop-byte
+invariant-loop-byte l = (l.count ≤ l.byte-index) × (l.count + patterns_from l.inside (drop l.byte-index l.code) ≡ patterns_from false l.code)

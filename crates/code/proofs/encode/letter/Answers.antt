@@ -1,14 +1,13 @@
--- `letter` meets its contract: the table is the list of the specification, and past its end stands 0.
+-- `letter` meets its contract: a keyword by its letter, and a digit by its byte.
 -- Assumes nothing.
-use mathlib.Core.Path.{refl, sym}
-use lib.ListN.{get_or-eq_default}
-use Rattle.code.specs.Code.{byte_of_kind, letters}
+use Rattle.lexer.specs.Words.{kind_number}
+use Rattle.code.proofs.FrontLaws.{digit-byte, digit-none}
 use Rattle.code.proofs.encode.letter.Goals as goal
 
-pub returns-then-k-lt22 : goal.returns-then-k-lt22
-unfolding byte_of_kind
-returns-then-k-lt22 c = refl
+pub returns-in-Digit : goal.returns-in-Digit
+unfolding kind_number
+returns-in-Digit c = rw c.in-Digit.is (digit-byte _ c.if-digit-lt10.true)
 
-pub returns : goal.returns
-unfolding byte_of_kind
-returns c = sym (get_or-eq_default letters 0 c.if-k-lt22.false)
+pub returns-in_default : goal.returns-in_default
+unfolding kind_number
+returns-in_default c = rw c.in-Digit.is (digit-none _ c.if-digit-lt10.false)

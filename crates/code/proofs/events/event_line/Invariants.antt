@@ -1,8 +1,9 @@
+use Rattle.std.proofs.Common.{length}
 use Rattle.code.proofs.EventLaws.{Going}
 use Rattle.code.proofs.events.event_line.Given as goal
 
-abbrev pub invariant-loop-roles : goal.invariant-loop-roles
-invariant-loop-roles l = Going l.names l.text l.roles l.len l.left l.unknown
+abbrev pub invariant-loop-lexeme : goal.invariant-loop-lexeme
+invariant-loop-lexeme l = Going l.names l.text l.roles l.len l.left l.unknown
 
-abbrev pub decreases-loop-roles : goal.decreases-loop-roles
-decreases-loop-roles l = l.left
+abbrev pub decreases-loop-lexeme : goal.decreases-loop-lexeme
+decreases-loop-lexeme l = length l.left

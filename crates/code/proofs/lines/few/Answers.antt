@@ -1,28 +1,14 @@
 -- `few` meets its contract: the count over the body's code, held to the limit.
 -- Assumes nothing.
-use mathlib.Core.Path.{◌≡◌, refl, sym}
-use native.Mathlib.Omega.{arith}
-use lib.ListN.{length}
-use lib.Seq.{length-take-le}
-use borrow.Author.Rules.{rules}
-use borrow.Author.Tests.{le-leb, lt-leb}
+use Rattle.std.proofs.Common.{refl, le-leb}
+use borrow.Author.Tests.{lt-leb}
 use Rattle.code.specs.Lines.{few_in}
 use Rattle.code.proofs.lines.few.Goals as goal
 
-pub returns-then-len-gt126 : goal.returns-then-len-gt126
+pub returns-in-Some : goal.returns-in-Some
 unfolding few_in
-returns-then-len-gt126 c = rw (lt-leb _ _ c.if-len-gt126.true) refl
+returns-in-Some c = let h = rw c.in-Some.is at c.bytes.ensures in rw (le-leb _ _ h.0, c.patterns.ensures, h.1) refl
 
-pub slice_bounds-code-end : goal.slice_bounds-code-end
-slice_bounds-code-end c =
-    let h : length c.args.body.code ≡ 126 = search rules in
-    omega arith
-
-pub slice_bounds-patterns-end : goal.slice_bounds-patterns-end
-slice_bounds-patterns-end c =
-    let h : length c.args.body.code ≡ 126 = search rules in
-    sym (length-take-le _ _ (omega arith))
-
-pub returns : goal.returns
+pub returns-in-None : goal.returns-in-None
 unfolding few_in
-returns c = rw (le-leb _ _ c.if-len-gt126.false, c.patterns.ensures) refl
+returns-in-None c = let h = rw c.in-None.is at c.bytes.ensures in rw (lt-leb _ _ h) refl

@@ -1,6 +1,6 @@
 -- `leading` meets its contract: the word in front is the first token, packed.
 -- Assumes nothing.
-use mathlib.Core.Path.{ap, ◌∙◌}
+use Rattle.std.proofs.Common.{ap, ◌∙◌}
 use Rattle.names.specs.Name.{packed}
 use Rattle.code.proofs.LineLaws.{front_word}
 use Rattle.code.proofs.lines.leading.Goals as goal
