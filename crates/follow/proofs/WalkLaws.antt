@@ -19,7 +19,7 @@ use Rattle.positions.specs.declared.summaries.Summary.{Summary}
 use Rattle.follow.specs.Meaning.{stars_on, past_meaning, sequence_meaning, factor_meaning, base_meaning}
 use Rattle.follow.specs.Walked.{starts, again, AfterBase, AfterFactor, AfterSequence, AfterPast, StarsRead, BaseRead, FactorRead, SequenceRead, PastRead}
 use Rattle.follow.specs.declared.walk.Walk.{Walk}
-use Rattle.follow.proofs.Heads.{longer, base_head, sequence_head, past_head, nowhere, starts_here}
+use Rattle.follow.proofs.Heads.{longer, sequence_head, past_head, starts_here}
 
 -- no pattern begins with a round bracket
 not_round : (code : List ℕ) (at : ℕ) (p : Pattern ℕ) (rest : List ℕ) → drop at code ≡ code_pattern p ++ rest → get_or code at 0 ≡ 40 → ⊥
