@@ -29,7 +29,7 @@ fn keyword(b: u8) -> &'static [u8]
 fn is_word(b: u8) -> bool
     ensures { result ≡ is_word b }
 {
-    matches!(b, 128..|b'a'..=b'z'| b'0'..=b'9')
+    matches!(b, b'0'..=b'9' | b'a'..=b'z' | 128..)
 }
 
 // The bytes of a token.
