@@ -12,18 +12,22 @@ pub mod steps;
 
 use full::{filled, thirty};
 use std::io;
+use steps::{role_declared, rule_declared};
 
 fn main(rt: HostRuntime) -> io::Result<()> {
-    let f = sheet::declared(&rt, follow::new())?;
-    let f = sheet::followed(&rt, f)?;
-    let f = sheet::joined(&rt, f)?;
-    let f = sheet::met(&rt, f)?;
-    let f = sheet::begun(&rt, f)?;
-    let f = sheet::refused_roles(&rt, f)?;
-    let f = sheet::refused_rules(&rt, f)?;
-    let f = sheet::longest(&rt, f)?;
-    let f = sheet::ended(&rt, thirty(f))?;
-    let f = sheet::full_of_roles(&rt, filled(&rt, f, true)?)?;
-    sheet::full_of_rules(&rt, filled(&rt, f, false)?)?;
-    Ok(())
+    let mut f = follow::new();
+    sheet::declared(&rt, &mut f)?;
+    sheet::followed(&rt, &mut f)?;
+    sheet::joined(&rt, &mut f)?;
+    sheet::met(&rt, &mut f)?;
+    sheet::begun(&rt, &mut f)?;
+    sheet::refused_roles(&rt, &mut f)?;
+    sheet::refused_rules(&rt, &mut f)?;
+    sheet::longest(&rt, &mut f)?;
+    thirty(&mut f);
+    sheet::ended(&rt, &mut f)?;
+    filled(&rt, &mut f, *b"role x00 under lamp", role_declared)?;
+    sheet::full_of_roles(&rt, &mut f)?;
+    filled(&rt, &mut f, *b"rule y00: <uv>; any; pass", rule_declared)?;
+    sheet::full_of_rules(&rt, &mut f)
 }

@@ -1,92 +1,82 @@
 // One step each: a line or an event made of its text, given to the follower, and told.
-use crate::shown::{name, number, say};
-use code::EventLine;
-use follow::{
-    Declared, Event, State, capped, commit, declare_role, declare_rule, matches, number_at, refused,
-};
+use crate::shown::name;
+use follow::{Declared, Event, State, commit, declare_role, declare_rule, matches};
 use std::io;
 
-// Rule i's name, where its past matches now.
-fn rule_told(rt: &impl Print, f: &State, i: usize) -> io::Result<()> {
-    if matches(&f.sheet.ends, &f.positions, i) {
-        say(rt, b" ")?;
-        name(rt, number_at(&f.sheet.rule_names, i))?;
-    }
-    Ok(())
+// The names of the roles held.
+fn roles_held(f: &State) -> &[u64] {
+    let n = f.sheet.role_count.min(64);
+    &f.sheet.names[..n]
 }
 
 // The names of the rules whose pasts match now, in declared order.
 fn rules_told(rt: &impl Print, f: &State) -> io::Result<()> {
-    let count = capped(32, f.sheet.rule_count);
-    for i in 0..count {
-        rule_told(rt, f, i)?;
+    let n = f.sheet.rule_count.min(32);
+    for (i, rule) in f.sheet.rule_names[..n].iter().enumerate() {
+        if matches(&f.sheet.ends, &f.positions, i) {
+            rt.write_all(b" ")?;
+            name(rt, *rule)?;
+        }
     }
     Ok(())
 }
 
 // A step: its text, its number, and the rules whose pasts match after it.
-pub fn told(rt: &impl Print, text: &[u8], d: Declared) -> io::Result<State> {
-    let f = d.state;
-    say(rt, text)?;
-    say(rt, b" => ")?;
-    number(rt, d.number as u64)?;
-    say(rt, b", matching:")?;
-    rules_told(rt, &f)?;
-    say(rt, b"\n")?;
-    Ok(f)
+pub fn told(rt: &impl Print, f: &State, text: &[u8], number: u8) -> io::Result<()> {
+    rt.write_all(text)?;
+    print!(rt; " => {number}, matching:")?;
+    rules_told(rt, f)?;
+    rt.write_all(b"\n")
 }
 
-// A role line, declared.
-pub fn role_declared(f: State, text: &[u8]) -> Declared {
-    let names = f.sheet.names;
-    let n = capped(64, f.sheet.role_count);
-    let line = code::role_line(text, &names[..n]);
-    declare_role(f, line)
+// What declaring leaves, and its number.
+fn left(f: &mut State, declared: Declared) -> u8 {
+    *f = declared.state;
+    declared.number
 }
 
-// A rule line, declared.
-pub fn rule_declared(f: State, text: &[u8]) -> Declared {
-    let names = f.sheet.names;
-    let n = capped(64, f.sheet.role_count);
-    let line = code::rule_line(text, &names[..n]);
-    declare_rule(f, line)
+// A role line, declared: its number.
+pub fn role_declared(f: &mut State, text: &[u8]) -> u8 {
+    let line = code::role_line(text, roles_held(f));
+    left(f, declare_role(*f, line))
+}
+
+// A rule line, declared: its number.
+pub fn rule_declared(f: &mut State, text: &[u8]) -> u8 {
+    let line = code::rule_line(text, roles_held(f));
+    left(f, declare_rule(*f, line))
 }
 
 // An event as read, committed; refused with 6 where it names a role that is not held.
-fn event_committed(f: State, e: EventLine) -> Declared {
-    if e.unknown {
-        return refused(f, 6);
+fn event_committed(f: &mut State, text: &[u8]) -> u8 {
+    let line = code::event_line(text, roles_held(f));
+    if line.unknown {
+        return 6;
     }
-    let roles = e.roles;
-    let next = commit(
-        f,
-        Event {
-            len: e.len,
-            roles: roles,
-        },
-    );
-    Declared {
-        number: 0,
-        name: 0,
-        state: next,
-    }
+    let roles = line.roles;
+    let event = Event {
+        len: line.len,
+        roles,
+    };
+    *f = commit(*f, event);
+    0
 }
 
 // A step that is a role line.
-pub fn role(rt: &impl Print, f: State, text: &[u8]) -> io::Result<State> {
-    told(rt, text, role_declared(f, text))
+pub fn role(rt: &impl Print, f: &mut State, text: &[u8]) -> io::Result<()> {
+    let number = role_declared(f, text);
+    told(rt, f, text, number)
 }
 
 // A step that is a rule line.
-pub fn rule(rt: &impl Print, f: State, text: &[u8]) -> io::Result<State> {
-    told(rt, text, rule_declared(f, text))
+pub fn rule(rt: &impl Print, f: &mut State, text: &[u8]) -> io::Result<()> {
+    let number = rule_declared(f, text);
+    told(rt, f, text, number)
 }
 
 // A step that is an event.
-pub fn event(rt: &impl Print, f: State, text: &[u8]) -> io::Result<State> {
-    let names = f.sheet.names;
-    let n = capped(64, f.sheet.role_count);
-    let e = code::event_line(text, &names[..n]);
-    say(rt, b"event ")?;
-    told(rt, text, event_committed(f, e))
+pub fn event(rt: &impl Print, f: &mut State, text: &[u8]) -> io::Result<()> {
+    let number = event_committed(f, text);
+    rt.write_all(b"event ")?;
+    told(rt, f, text, number)
 }

@@ -2,7 +2,6 @@
 ghost use Rattle.std.specs.Prelude.{◌≡◌, true};
 ghost use Rattle.test_judge.specs.Answers.{refusal_shown, shown_as};
 
-use check::same;
 use judge::Verdict;
 
 // `R`, a space and the number in two digits.
@@ -17,8 +16,8 @@ pub fn shown(verdict: Verdict) -> [u8; 4]
     ensures { result ≡ shown_as verdict }
 {
     match verdict {
-        Verdict::Yes => [b'y', b'e', b's', b' '],
-        Verdict::No => [b'n', b'o', b' ', b' '],
+        Verdict::Yes => *b"yes ",
+        Verdict::No => *b"no  ",
         Verdict::NoRule => refusal(9),
         Verdict::NotWhole => refusal(10),
         Verdict::Malformed => refusal(3),
@@ -31,5 +30,5 @@ pub fn shown(verdict: Verdict) -> [u8; 4]
 pub fn agrees(answer: &[u8; 4], stored: &[u8]) -> bool
     ensures { result ≡ true → answer.now ≡ stored.now }
 {
-    same(answer, stored)
+    answer.as_slice() == stored
 }

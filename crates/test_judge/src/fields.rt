@@ -1,36 +1,25 @@
 // The fields of a case's record.
-use common::wide;
 use input::read_full;
 use std::io;
 use std::io::Read;
 
-// The number that digits say. It stops where a digit more could pass what a number holds.
+// The number that digits say, or the greatest where it is above that.
 pub fn decimal(digits: &[u8]) -> usize {
-    let mut n: usize = 0;
-    for digit in digits {
-        if 1844674407370955000 <= n {
-            return n;
-        }
-        n = n * 10 + wide(*digit % 16);
-    }
-    n
+    digits.iter().fold(0, |n: usize, digit| {
+        n.saturating_mul(10)
+            .saturating_add(usize::from(*digit % 16))
+    })
 }
 
 // The bytes from one place to another; all, where there are fewer.
 pub fn field(s: &[u8], from: usize, to: usize) -> &[u8] {
-    if to < from {
-        return s;
-    }
-    if s.len() < to {
-        return s;
-    }
-    &s[from..to]
+    s.get(from..to).unwrap_or(s)
 }
 
-// Reads a list of `len` bytes to the start of a buffer, and answers how many there were.
+// Reads a list of `len` bytes to the start of a buffer, and answers how many there were; none where there is no room for them.
 pub fn list_read(file: &mut impl Read, buffer: &mut [u8], len: usize) -> io::Result<usize> {
-    if buffer.len() < len {
-        return Ok(0);
+    match buffer.get_mut(..len) {
+        Some(list) => read_full(file, list),
+        None => Ok(0),
     }
-    read_full(file, &mut buffer[..len])
 }

@@ -1,48 +1,38 @@
 // A session's replies against the stored ones.
-ghost use Rattle.std.specs.Prelude.{◌≡◌};
+ghost use Rattle.std.specs.Prelude.{◌≡◌, IfNone};
 
-use check::same;
-use common::wide;
 use follow::State;
-use input::read_full;
+use input::{next, read_full};
 use monitor::handle;
 use std::io;
 use std::io::Read;
 
-// What a comparison finds: the reply is the stored one; the records and the stored replies end together; the byte that differs first; the
-// number that the monitor returned is not the reply's; the stored replies end first; the records end first.
-#[derive(Clone, Copy)]
+// What ends a comparison: the records and the stored replies end together; the byte of a reply that differs first; the number that the monitor
+// returned is not the reply's; the stored replies end first; the records end first; more replies are as stored than are counted.
+#[derive(Clone, Copy, Debug, PartialEq, Eq)]
 pub enum Finding {
-    Same,
     Ended,
-    Differs(u64),
+    Differs(usize),
     OtherNumber,
     RepliesEnded,
     RepliesLeft,
-}
-
-// The monitor after a record, and what the comparison of its reply found.
-#[derive(Clone, Copy)]
-pub struct Step {
-    pub monitor: State,
-    pub finding: Finding,
+    NotEnded,
 }
 
 // How many replies were as stored, and what was found after them.
-#[derive(Clone, Copy)]
+#[derive(Clone, Copy, Debug, PartialEq, Eq)]
 pub struct Compared {
     pub count: u64,
     pub finding: Finding,
 }
 
 // The first place where the bytes differ, or 50.
-fn first_other(reply: &[u8; 50], stored: &[u8; 50]) -> u64 {
-    for i in 0..50 {
-        if reply[i] != stored[i] {
-            return i as u64;
-        }
-    }
-    50
+fn first_other(reply: &[u8; 50], stored: &[u8; 50]) -> usize {
+    reply
+        .iter()
+        .zip(stored)
+        .position(|(a, b)| a != b)
+        .unwrap_or(50)
 }
 
 // Whether a number is the one that the reply tells. "Columns 2 and 3: .. the refusal number for `R`"; "Each call also returns a number, 0 when
@@ -51,77 +41,53 @@ fn tells(number: u8, reply: &[u8; 50]) -> bool {
     if reply[0] != b'R' {
         return number == 0;
     }
-    wide(reply[2]) * 10 + wide(reply[3]) == wide(number) + 528
+    usize::from(reply[2]) * 10 + usize::from(reply[3]) == usize::from(number) + 528
 }
 
-// What a number is, returned with a reply that is the stored one.
-fn found_number(number: u8, stored: &[u8; 50]) -> Finding {
-    if tells(number, stored) {
-        return Finding::Same;
-    }
-    Finding::OtherNumber
-}
-
-// What a reply and the number returned with it are, by the stored reply. `Same` is said only of a reply that is the stored one.
-fn found(number: u8, reply: &[u8; 50], stored: &[u8; 50]) -> Finding
-    ensures { result ≡ Finding.Same → reply.now ≡ stored.now }
+// What a reply and the number returned with it are found to be, by the stored reply. Nothing is found only of a reply that is the stored one.
+fn found(number: u8, reply: &[u8; 50], stored: &[u8; 50]) -> Option<Finding>
+    ensures { IfNone result (reply.now ≡ stored.now) }
 {
-    if same(reply, stored) {
-        return found_number(number, stored);
+    if reply != stored {
+        return Some(Finding::Differs(first_other(reply, stored)));
     }
-    Finding::Differs(first_other(reply, stored))
+    if tells(number, stored) {
+        None
+    } else {
+        Some(Finding::OtherNumber)
+    }
 }
 
 // Hands a record to the monitor and compares the reply.
-fn answered(monitor: State, record: &[u8], stored: &[u8; 50]) -> Step {
+fn answered(monitor: &mut State, record: &[u8], stored: &[u8; 50]) -> Option<Finding> {
     let mut reply = [0u8; 50];
-    let handled = handle(monitor, record, &mut reply);
-    let left = handled.monitor;
-    Step {
-        monitor: left,
-        finding: found(handled.number, &reply, stored),
-    }
-}
-
-// What is found where the records have ended and k more bytes of stored replies stand.
-fn ended(k: usize) -> Finding {
-    if k == 0 {
-        return Finding::Ended;
-    }
-    Finding::RepliesLeft
+    let handled = handle(*monitor, record, &mut reply);
+    *monitor = handled.monitor;
+    found(handled.number, &reply, stored)
 }
 
 // Reads the next record and the next stored reply, and compares.
-fn next(records: &mut impl Read, replies: &mut impl Read, monitor: State) -> io::Result<Step> {
-    let mut record = [0u8; 128];
+fn next_compared(
+    records: &mut impl Read,
+    replies: &mut impl Read,
+    monitor: &mut State,
+) -> io::Result<Option<Finding>> {
+    let mut bytes = [0u8; 128];
+    let record = next(records, &mut bytes)?;
     let mut stored = [0u8; 50];
-    let n = read_full(records, &mut record)?;
-    let k = read_full(replies, &mut stored)?;
-    if n == 0 {
-        return Ok(Step {
-            monitor: monitor,
-            finding: ended(k),
-        });
+    let n = read_full(replies, &mut stored)?;
+    if record.len() == 0 {
+        let finding = if n == 0 {
+            Finding::Ended
+        } else {
+            Finding::RepliesLeft
+        };
+        return Ok(Some(finding));
     }
-    if k < 50 {
-        return Ok(Step {
-            monitor: monitor,
-            finding: Finding::RepliesEnded,
-        });
+    if n < 50 {
+        return Ok(Some(Finding::RepliesEnded));
     }
-    Ok(answered(monitor, &record[..n], &stored))
-}
-
-// Whether the finding is that the reply is the stored one.
-fn is_same(finding: Finding) -> bool {
-    match finding {
-        Finding::Same => true,
-        Finding::Ended => false,
-        Finding::Differs(_) => false,
-        Finding::OtherNumber => false,
-        Finding::RepliesEnded => false,
-        Finding::RepliesLeft => false,
-    }
+    Ok(answered(monitor, record, &stored))
 }
 
 // Every record, in order, from a fresh monitor on, as far as the replies are as stored. The loop has to end and nothing says that a file does,
@@ -129,18 +95,12 @@ fn is_same(finding: Finding) -> bool {
 pub fn replies_compared(records: &mut impl Read, replies: &mut impl Read) -> io::Result<Compared> {
     let mut monitor = monitor::new();
     for count in 0..u64::MAX {
-        let s = next(records, replies, monitor)?;
-        let finding = s.finding;
-        if !is_same(finding) {
-            return Ok(Compared {
-                count: count,
-                finding: finding,
-            });
+        if let Some(finding) = next_compared(records, replies, &mut monitor)? {
+            return Ok(Compared { count, finding });
         }
-        monitor = s.monitor;
     }
     Ok(Compared {
         count: u64::MAX,
-        finding: Finding::Same,
+        finding: Finding::NotEnded,
     })
 }
