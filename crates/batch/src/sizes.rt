@@ -9,15 +9,10 @@ const MAX_BATCH: usize = 512;
 
 // Whether so many bytes are whole records, 512 at most, and so many are 50 for the reply to each. The number of records is looked at before it is
 // multiplied, so that no product can wrap.
+#[tactic(auto, unfolding(book::specs::Batches::sizes_fit))]
 pub fn fits(records: usize, replies: usize) -> bool
     ensures { result ≡ sizes_fit records replies }
 {
-    if records % RECORD_SIZE != 0 {
-        return false;
-    }
     let count = records / RECORD_SIZE;
-    if MAX_BATCH < count {
-        return false;
-    }
-    replies == count * REPLY_SIZE
+    records % RECORD_SIZE == 0 && count <= MAX_BATCH && replies == count * REPLY_SIZE
 }
