@@ -1,4 +1,8 @@
 // What the chain reads of a state.
+ghost use Rattle.std.specs.Prelude.{◌≡◌};
+ghost use Rattle.chain.specs.Duties.{seen, view_of};
+
+use follow::State;
 
 // A state's rules as the chain reads them: their rows, ends and positions, the table of parents, and how many rules there are. The slices may have any
 // lengths and hold anything.
@@ -9,4 +13,19 @@ pub struct View<'a> {
     pub positions: &'a [u64],
     pub parents: &'a [u8],
     pub count: usize,
+}
+
+impl<'a> From<&'a State> for View<'a> {
+    ghost from_gives = { λ state view. seen view ≡ view_of state.now };
+
+    // The state's own arrays and count.
+    fn from(state: &'a State) -> View<'a> {
+        View {
+            rows: &state.sheet.rows,
+            ends: &state.sheet.ends,
+            positions: &state.positions,
+            parents: &state.sheet.parents,
+            count: state.sheet.rule_count,
+        }
+    }
 }

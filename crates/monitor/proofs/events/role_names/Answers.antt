@@ -1,9 +1,7 @@
 -- `role_names` meets its contract.
 -- Assumes nothing.
-use mathlib.Core.Path.{◌≡◌}
-use lib.ListN.{length}
+use Rattle.std.proofs.Common.{◌≡◌, length, rules}
 use Rattle.monitor.proofs.EventLaws.{names_read}
-use borrow.Author.Rules.{rules}
 use Rattle.monitor.proofs.events.role_names.Goals as goal
 
 pub returns : goal.returns
