@@ -8,8 +8,9 @@ use Rattle.grammar.specs.Trees.{Slot, named, place, Template}
 use Rattle.code.specs.Trees.{code_slots}
 use Rattle.patterns.proofs.Here as at
 use Rattle.patterns.proofs.Here.{here}
-use Rattle.follow.specs.State.{capped, event_of}
-use Rattle.follow.specs.declared.state.Event.{Event}
+use Rattle.code.specs.Events.{event_of}
+use Rattle.follow.specs.State.{capped}
+use Rattle.code.specs.declared.events.Event.{Event}
 use Rattle.chain.specs.Work.{fill_slot, cons_filled, fill}
 use Rattle.chain.specs.Responses.{role_picked, roles_made, behind, SlotRead, FillRead, TemplateRead}
 use Rattle.chain.specs.declared.responses.Picked.{Picked}

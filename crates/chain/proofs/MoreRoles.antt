@@ -1,8 +1,8 @@
 -- An event with one role more.
 -- Assumes nothing.
 use Rattle.std.proofs.Common.{◌≡◌, [], ◌∷◌, ◌++◌, ℕ, ◌+◌, ◌<◌, add-one, arith, length, set, take-suc-set}
-use Rattle.follow.specs.State.{event_of}
-use Rattle.follow.specs.declared.state.Event.{Event}
+use Rattle.code.specs.Events.{event_of}
+use Rattle.code.specs.declared.events.Event.{Event}
 use Rattle.follow.proofs.CappedLaws.{capped_small}
 
 -- one role more

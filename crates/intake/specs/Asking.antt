@@ -6,13 +6,12 @@ use Rattle.frame.specs.Text.{text_of}
 use Rattle.frame.specs.Record.{refusal as number_of, frame_of}
 use Rattle.frame.specs.declared.records.Frame.{Frame}
 use Rattle.frame.specs.declared.records.Frame.TheVariants.{Line as LineRecord, Event as EventRecord, WrongLength, Malformed as MalformedRecord}
-use Rattle.code.specs.Events.{event_line_of}
+use Rattle.code.specs.Events.{event_line_of, event_of}
 use Rattle.code.specs.declared.events.EventLine.{EventLine}
 use Rattle.common.specs.All.{All}
 use Rattle.common.specs.Refusals.{refusal_number}
 use Rattle.common.specs.declared.refusals.Refusal as why
-use Rattle.follow.specs.State.{event_of}
-use Rattle.follow.specs.declared.state.Event as kept
+use Rattle.code.specs.declared.events.Event as kept
 use Rattle.follow.specs.declared.state.Sheet.{Sheet}
 use Rattle.intake.specs.Names.{Event}
 use Rattle.intake.specs.Asked.{refused_by, asks_event, asked_event}

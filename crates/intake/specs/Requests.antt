@@ -1,7 +1,7 @@
 -- What a record asks, told by its kind.
 -- Assumes nothing.
 use Rattle.std.specs.Prelude.{ℕ}
-use Rattle.follow.specs.declared.state.Event as kept
+use Rattle.code.specs.declared.events.Event as kept
 
 -- a record is refused; or it is a line, to be declared; or an event, to be worked
 pub data Kind : Type 0 where

@@ -5,7 +5,7 @@ ghost use Rattle.intake.specs.Asking.{event_request, event_as, request_as, Asks}
 
 use code::event_line;
 use common::Refusal;
-use follow::Event;
+use code::Event;
 use frame::{Frame, framed, text};
 
 // What a record asks that is not refused: a line, to be declared; or an event, to be worked, with ids for names.

@@ -1,6 +1,7 @@
 // One step each: a line or an event made of its text, given to the follower, and told.
+use code::Event;
 use crate::shown::name;
-use follow::{Declared, Event, State, commit, declare_role, declare_rule, matches};
+use follow::{Declared, State, commit, declare_role, declare_rule, matches};
 use std::io;
 
 // The names of the roles held.

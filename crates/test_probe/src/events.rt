@@ -1,7 +1,7 @@
 // Events from bytes.
 ghost use Rattle.std.specs.Prelude.{◌<◌, IfSome, length};
 
-use follow::Event;
+use code::Event;
 
 // How many roles the table has.
 const ROLES: u8 = 8;
