@@ -1,6 +1,6 @@
 -- What reading a line tells, with ids for the names held. The tokens of a line stand at fixed places: `role NAME under NAME`, `rule NAME : ..`.
 -- Assumes nothing.
-use Rattle.std.specs.Prelude.{Bool, false, ◌&&◌, List, [], ◌∷◌, ℕ, leb, take, drop}
+use Rattle.std.specs.Prelude.{Bool, false, ◌&&◌, List, [], ◌∷◌, ℕ, leb, take, drop, unwrap_or}
 use Rattle.common.specs.Limits.{max_patterns}
 use Rattle.lexer.specs.Tokens.{Token, word, mark, other, tokens, last, lexeme_of}
 use Rattle.lexer.specs.Lexeme.{Lexeme, End, Word, Mark, Other}
@@ -45,3 +45,7 @@ rule_line_of ns s = record { name = name_in 1 s; fits = few_in (encoded_of ns (d
 -- "role, a name, under, a name (its parent)": the name is token 1, and the parent token 3, told by its place among the names held, where it is held
 unfoldable pub role_line_of : List ℕ → List ℕ → RoleLine
 role_line_of ns s = record { name = name_in 1 s; parent = found (name_in 3 s) ns }
+
+-- the parent's place as a number, d where it is not held
+abbrev pub parent_or : ℕ → RoleLine → ℕ
+parent_or d l = unwrap_or l.parent d

@@ -1,6 +1,6 @@
 -- Laws of the place of a packed name among those held.
 -- Assumes nothing.
-use Rattle.std.proofs.Common.{◌≡◌, refl, sym, Bool, true, false, cond, not, ◌||◌, List, [], ◌∷◌, ◌↔◌, ℕ, zero, suc, ◌+◌, ◌<◌, ◌≤◌, arith, eqb, ltb, length, get_or, eqb-true, eq-eqb, ne_eqb, lt-ltb, le-ltb, ltb-true, ltb-false, Option, Some, None}
+use Rattle.std.proofs.Common.{◌≡◌, refl, sym, Bool, true, false, cond, not, ◌||◌, List, [], ◌∷◌, ◌↔◌, ℕ, zero, suc, ◌+◌, ◌<◌, ◌≤◌, arith, eqb, ltb, length, get_or, eqb-true, eq-eqb, ne_eqb, lt-ltb, le-ltb, ltb-true, ltb-false, Some, None, is_some, unwrap_or}
 use Prim.Native.Nat.compare
 use borrow.Author.Tests.{eqb-false}
 use Rattle.std.specs.List.{position_or_len}
@@ -78,3 +78,19 @@ module _ (x : ℕ) where
   -- a place below the length is found
   pub found-place : (ns : List ℕ) → place x ns < length ns → found x ns ≡ Some (place x ns)
   found-place ns h = rw (lt-ltb (place x ns) (length ns) h) refl
+
+  -- a name is found where its place is below the length
+  pub found-tells : (ns : List ℕ) → is_some (found x ns) ≡ ltb (place x ns) (length ns)
+  found-tells ns = go (ltb (place x ns) (length ns)) refl
+    where
+      go : (b : Bool) → ltb (place x ns) (length ns) ≡ b → is_some (cond b (Some (place x ns)) None) ≡ b
+      go true e = refl
+      go false e = refl
+
+  -- told by a number that is past the list where the name is not held
+  pub found-below : (ns : List ℕ) (d : ℕ) → length ns ≤ d → ltb (unwrap_or (found x ns) d) (length ns) ≡ ltb (place x ns) (length ns)
+  found-below ns d h = go (ltb (place x ns) (length ns)) refl
+    where
+      go : (b : Bool) → ltb (place x ns) (length ns) ≡ b → ltb (unwrap_or (cond b (Some (place x ns)) None) d) (length ns) ≡ b
+      go true e = e
+      go false e = le-ltb d (length ns) h
