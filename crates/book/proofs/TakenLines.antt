@@ -19,7 +19,7 @@ use Rattle.grammar.specs.Lines.{declares}
 use Rattle.grammar.proofs.Language.{line_taken}
 use Rattle.frame.specs.Text.{text_of}
 use Rattle.frame.specs.Record.{line_byte}
-use Rattle.frame.specs.declared.records.Frame.TheVariants.{Line as LineRecord}
+use Rattle.frame.specs.Record.{Line as LineRecord}
 use Rattle.frame.proofs.FrameLaws.{frame_exactly}
 use Rattle.patterns.specs.Roles.{top_name, Role, is_held, Grown, grown_fresh, grown_more}
 use Rattle.render.specs.Records.{line_record}

@@ -1,18 +1,17 @@
 -- What a record asks, by its frame.
 -- Assumes nothing.
-use mathlib.Core.Path.{◌≡◌, refl, sym, subst}
-use mathlib.Core.List.{List}
-use Prim.Native.Nat.{ℕ, ◌≤◌}
-use native.Mathlib.Omega.{arith}
-use lib.ListN.{length, drop, length-take}
+use Rattle.std.proofs.Common.{◌≡◌, refl, sym, ap, ◌∙◌, subst, List, ℕ, ◌≤◌, Bool, true, false, cond, Ok, Err, arith, length, drop}
+use lib.ListN.{length-take}
+use Rattle.common.specs.Refusals.{refusal_number}
+use Rattle.common.specs.declared.refusals.Refusal.{Refusal}
+use Rattle.common.specs.declared.refusals.Refusal.TheVariants.{RecordLength, Malformed as MalformedRecord, NotDeclared, NotInLanguage}
+use Rattle.frame.specs.declared.records.RecordKind.TheVariants.{Line as LineKind, Event as EventKind}
 use Rattle.frame.specs.Text.{text_of}
-use Rattle.frame.specs.Record.{frame_of}
-use Rattle.frame.specs.declared.records.Frame.{Frame}
-use Rattle.frame.specs.declared.records.Frame.TheVariants.{Line, Event, WrongLength, Malformed}
-use Rattle.code.specs.Events.{event_line_of}
+use Rattle.frame.specs.Record.{Frame, Line, Event, WrongLength, Malformed, frame_of, answered}
+use Rattle.code.specs.Events.{EventLine, event_line_of, event_answer}
 use Rattle.follow.specs.declared.state.Sheet.{Sheet}
 use Rattle.intake.specs.Represents.{table_of, Naming}
-use Rattle.intake.specs.Asking.{refusal, a_line, event_request, request_by, request_of, Told, told-short, told_malformed, told_line, told-event, Asks}
+use Rattle.intake.specs.Asking.{refusal, a_line, an_event, event_as, event_request, request_by, request_of, Told, told-short, told_malformed, told_line, told-event, Asks}
 use Rattle.intake.specs.Requests.{Request}
 use Rattle.intake.proofs.EventLaws.{event-seen}
 
@@ -47,12 +46,38 @@ module _ (ns b : List ℕ) (r : Request) where
   unfolding request_by
   ask_event e h = by_frame Event e h
 
-  -- row 2
-  pub ask_short : frame_of b ≡ WrongLength → r ≡ refusal 2 → Asks ns b r
+  -- rows 2 and 3
+  pub ask_refused : (e : Refusal) → answered (frame_of b) ≡ Err e → r ≡ refusal (refusal_number e) → Asks ns b r
   unfolding request_by
-  ask_short e h = by_frame WrongLength e h
+  ask_refused e h q = go (frame_of b) refl h
+    where
+      go : (k : Frame) → frame_of b ≡ k → answered k ≡ Err e → Asks ns b r
+      go Line f a = cc
+      go Event f a = cc
+      go WrongLength f a = let s : RecordLength ≡ e = cc in by_frame WrongLength f (q ∙ ap (λ x. refusal (refusal_number x)) (sym s))
+      go Malformed f a = let s : MalformedRecord ≡ e = cc in by_frame Malformed f (q ∙ ap (λ x. refusal (refusal_number x)) (sym s))
 
-  -- row 3
-  pub ask_malformed : frame_of b ≡ Malformed → r ≡ refusal 3 → Asks ns b r
-  unfolding request_by
-  ask_malformed e h = by_frame Malformed e h
+-- a frame that is answered as a line
+pub frame_line : (k : Frame) → answered k ≡ Ok LineKind → k ≡ Line
+frame_line Line h = refl
+frame_line Event h = cc
+frame_line WrongLength h = cc
+frame_line Malformed h = cc
+
+-- a frame that is answered as an event
+pub frame_event : (k : Frame) → answered k ≡ Ok EventKind → k ≡ Event
+frame_event Line h = cc
+frame_event Event h = refl
+frame_event WrongLength h = cc
+frame_event Malformed h = cc
+
+-- an event's answer, as a request
+pub event_answered : (l : EventLine) → event_as (event_answer l) ≡ event_request l
+unfolding event_request
+event_answered l = go l.fits l.unknown
+  where
+    go : (a b : Bool) → event_as (cond a (cond b (Err NotDeclared) (Ok (record { len = l.len; roles = l.roles }))) (Err NotInLanguage))
+        ≡ cond a (cond b (refusal 6) (an_event (record { len = l.len; roles = l.roles }))) (refusal 4)
+    go true true = refl
+    go true false = refl
+    go false b = refl

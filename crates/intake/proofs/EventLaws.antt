@@ -16,7 +16,7 @@ use Rattle.grammar.specs.Lines.{Says, read_event}
 use Rattle.grammar.proofs.Language.{event-taken}
 use Rattle.code.specs.Code.{id_of, lacks}
 use Rattle.code.specs.Events.{event_told, event_said, event_line_of, event_of}
-use Rattle.code.specs.declared.events.EventLine.{EventLine}
+use Rattle.code.specs.Events.{EventLine}
 use Rattle.code.proofs.EventLaws.{names-few}
 use Rattle.common.specs.All.{All}
 use Rattle.patterns.specs.Roles.{all_held}

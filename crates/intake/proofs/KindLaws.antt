@@ -7,7 +7,7 @@ use native.Mathlib.Omega.{arith}
 use Rattle.grammar.specs.Lines.{read_line}
 use Rattle.frame.specs.Text.{text_of}
 use Rattle.frame.specs.Record.{frame_of}
-use Rattle.frame.specs.declared.records.Frame.TheVariants.{Line as LineRecord}
+use Rattle.frame.specs.Record.{Line as LineRecord}
 use Rattle.follow.specs.declared.state.Sheet.{Sheet}
 use Rattle.intake.specs.Names.{Name, Event, Roles}
 use Rattle.intake.specs.Asked.{refused_by, asks_event, asked_line, asked_text, asked}

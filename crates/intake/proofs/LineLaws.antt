@@ -9,8 +9,10 @@ use lib.ListN.{length}
 use Rattle.common.proofs.Bools.{true_not_false}
 use Rattle.grammar.specs.AsRead.{Line, role, rule, event}
 use Rattle.grammar.specs.Lines.{read_line, kind_of_line}
-use Rattle.grammar.specs.declared.lines.Kind.{Kind}
-use Rattle.grammar.specs.declared.lines.Kind.TheVariants.{Role, Rule, Neither}
+use Rattle.std.proofs.Common.{Some, None}
+use Rattle.std.proofs.Common as std
+use Rattle.grammar.specs.declared.lines.LineKind.{LineKind}
+use Rattle.grammar.specs.declared.lines.LineKind.TheVariants.{Role, Rule}
 use Rattle.grammar.proofs.Language.{line_taken}
 use Rattle.follow.specs.State.{refuse}
 use Rattle.follow.specs.declared.state.State.{State}
@@ -20,20 +22,20 @@ use Rattle.intake.specs.Machine.{PositionMachine}
 use Rattle.intake.specs.Represents.{Represents}
 use Rattle.intake.specs.Declaring.{DeclaredAs, line_asked, RoleLineDeclared, RuleLineDeclared, LineDeclared}
 
-abbrev is_role : Kind → Type 0
-is_role Role = Unit {0}
-is_role Rule = ⊥
-is_role Neither = ⊥
+abbrev is_role : std.Option LineKind → Type 0
+is_role (Some Role) = Unit {0}
+is_role (Some Rule) = ⊥
+is_role None = ⊥
 
-abbrev is_rule : Kind → Type 0
-is_rule Role = ⊥
-is_rule Rule = Unit {0}
-is_rule Neither = ⊥
+abbrev is_rule : std.Option LineKind → Type 0
+is_rule (Some Role) = ⊥
+is_rule (Some Rule) = Unit {0}
+is_rule None = ⊥
 
-abbrev is_neither : Kind → Type 0
-is_neither Role = ⊥
-is_neither Rule = ⊥
-is_neither Neither = Unit {0}
+abbrev is_neither : std.Option LineKind → Type 0
+is_neither (Some Role) = ⊥
+is_neither (Some Rule) = ⊥
+is_neither None = Unit {0}
 
 module _ (f : State) (s : List ℕ) (r : Declared) where
   abbrev Right : Option Line → Type 0
@@ -51,10 +53,10 @@ module _ (f : State) (s : List ℕ) (r : Declared) where
   by_rule h (some (rule w p q x)) e k = λ t rep m. h.right t rep m w p q x ((line_taken s (rule w p q x)).0 e).0
   by_rule h (some (event ws)) e k = absurd k
 
-  pub line-role : kind_of_line (read_line s) ≡ Role → RoleLineDeclared f s r → LineDeclared f s r
+  pub line-role : kind_of_line (read_line s) ≡ Some Role → RoleLineDeclared f s r → LineDeclared f s r
   line-role e h = record { steady = h.steady; right = by_role h (read_line s) refl (subst is_role (sym e) tt) }
 
-  pub line-rule : kind_of_line (read_line s) ≡ Rule → RuleLineDeclared f s r → LineDeclared f s r
+  pub line-rule : kind_of_line (read_line s) ≡ Some Rule → RuleLineDeclared f s r → LineDeclared f s r
   line-rule e h = record { steady = h.steady; right = by_rule h (read_line s) refl (subst is_rule (sym e) tt) }
 
 module _ (f : State) (s : List ℕ) where
@@ -66,6 +68,6 @@ module _ (f : State) (s : List ℕ) where
   by_neither (some (event ws)) e k t rep = absurd (true_not_false false ((line_taken s (event ws)).0 e).1 refl)
 
   -- row 4
-  pub line_neither : (r : Declared) → kind_of_line (read_line s) ≡ Neither → r ≡ refuse f 4 → LineDeclared f s r
+  pub line_neither : (r : Declared) → kind_of_line (read_line s) ≡ None → r ≡ refuse f 4 → LineDeclared f s r
   line_neither r e h =
       rw h record { steady = λ h. refl; right = λ t rep m. by_neither (read_line s) refl (subst is_neither (sym e) tt) t rep }

@@ -14,12 +14,14 @@ use Rattle.common.proofs.Bools.{true_not_false}
 use Rattle.grammar.specs.AsRead.{role}
 use Rattle.grammar.specs.Lines.{Says}
 use Rattle.names.specs.Name.{packed}
-use Rattle.names.specs.Place.{place}
+use Rattle.std.proofs.Common.{Option, unwrap_or, ◌≤◌, arith}
+use Rattle.names.specs.Place.{place, found}
+use Rattle.names.proofs.PlaceLaws.{found-below, found-place}
 use Rattle.code.specs.Lines.{role_line_of}
 use Rattle.code.specs.declared.lines.RoleLine.{RoleLine}
 use Rattle.code.proofs.LineLaws.{RoleTold, role-told}
 use Rattle.patterns.specs.Roles.{is_held}
-use Rattle.follow.specs.State.{capped, is_taken, join_role, declare_role}
+use Rattle.follow.specs.State.{capped, parent_in, is_taken, join_role, declare_role}
 use Rattle.follow.specs.declared.state.State.{State}
 use Rattle.follow.specs.Declaring.{Declared}
 use Rattle.follow.proofs.Steady.{role-steady}
@@ -57,10 +59,19 @@ module _ (f : State) (z : Sized f) (s : List ℕ) (l : RoleLine) (read : l ≡ r
     is-taken : is_taken f.sheet l.name ≡ not (is_free t.roles (names_of t.rules) w)
     is-taken = ap (is_taken f.sheet) name-is ∙ taken_is f z t rep w word
 
-    is-held : ltb l.parent (capped max_roles f.sheet.role_count) ≡ is_held same t.roles p
+    -- how many roles are held
+    count-is : capped max_roles f.sheet.role_count ≡ length (table_of f.sheet)
+    count-is = roles-capped f.sheet rep.naming ∙ sym (table_long f.sheet rep.naming)
+
+    abbrev at : ℕ
+    at = parent_in f.sheet l
+
+    is-held : ltb at (capped max_roles f.sheet.role_count) ≡ is_held same t.roles p
     is-held =
-        ap (λ (x : ℕ). ltb x (capped max_roles f.sheet.role_count)) told.parent
-        ∙ ap (ltb (place (packed p) (table_of f.sheet))) (roles-capped f.sheet rep.naming ∙ sym (table_long f.sheet rep.naming))
+        let h : length (table_of f.sheet) ≤ capped max_roles f.sheet.role_count = omega (arith, count-is) in
+        ap (λ (x : Option ℕ). ltb (unwrap_or x (capped max_roles f.sheet.role_count)) (capped max_roles f.sheet.role_count)) told.parent
+        ∙ ap (ltb (unwrap_or (found (packed p) (table_of f.sheet)) (capped max_roles f.sheet.role_count))) count-is
+        ∙ found-below (packed p) (table_of f.sheet) (capped max_roles f.sheet.role_count) h
         ∙ held-is f z t rep p parent-word
 
     has_room : ltb f.sheet.role_count max_roles ≡ ltb (length t.roles) max_roles
@@ -72,12 +83,15 @@ module _ (f : State) (z : Sized f) (s : List ℕ) (l : RoleLine) (read : l ≡ r
     role-taken : is_free t.roles (names_of t.rules) w ≡ true → is_held same t.roles p ≡ true → ltb (length t.roles) max_roles ≡ true → Told
     unfolding asked_line declare_role is_free
     role-taken a b c =
-        let below : l.parent < f.sheet.role_count = subst (λ (x : ℕ). l.parent < x) (roles-capped f.sheet rep.naming) (ltb-true _ _ (is-held ∙ b)) in
-        let parent : name_at f.sheet l.parent ≡ p =
-        ap (name_at f.sheet) told.parent ∙ naming.place_is_lem f.sheet rep.naming p parent-word (subst (λ (x : ℕ). x < f.sheet.role_count) told.parent below) in
+        let below : at < f.sheet.role_count = subst (λ (x : ℕ). at < x) (roles-capped f.sheet rep.naming) (ltb-true _ _ (is-held ∙ b)) in
+        let in_table : place (packed p) (table_of f.sheet) < length (table_of f.sheet) = ltb-true _ _ (held-is f z t rep p parent-word ∙ b) in
+        let at-is : at ≡ place (packed p) (table_of f.sheet) =
+        ap (λ (x : Option ℕ). unwrap_or x (capped max_roles f.sheet.role_count)) (told.parent ∙ found-place (packed p) (table_of f.sheet) in_table) in
+        let parent : name_at f.sheet at ≡ p =
+        ap (name_at f.sheet) at-is ∙ naming.place_is_lem f.sheet rep.naming p parent-word (subst (λ (x : ℕ). x < f.sheet.role_count) at-is below) in
         let free : is_held same t.roles w ≡ false = free-held (is_held same t.roles w) _ a in
-        let kept = kept-role f z t rep w word l.parent below (ltb-true _ _ (has_room ∙ c)) free in
-        taking_role f t (line_asked t (some (role w p))) (declare_role f l) (join_role f l.name l.parent) w word l.name name-is
+        let kept = kept-role f z t rep w word at below (ltb-true _ _ (has_room ∙ c)) free in
+        taking_role f t (line_asked t (some (role w p))) (declare_role f l) (join_role f l.name at) w word l.name name-is
         (rw (is-taken ∙ ap not a, is-held ∙ b, has_room ∙ c) refl)
         p
         (rw (a, b, c) refl)

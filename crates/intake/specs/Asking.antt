@@ -4,10 +4,10 @@ use Rattle.std.specs.Prelude.{◌≡◌, cond, Result, Ok, Err, List, [], ◌∷
 use Rattle.grammar.specs.Lines.{read_event}
 use Rattle.frame.specs.Text.{text_of}
 use Rattle.frame.specs.Record.{refusal as number_of, frame_of}
-use Rattle.frame.specs.declared.records.Frame.{Frame}
-use Rattle.frame.specs.declared.records.Frame.TheVariants.{Line as LineRecord, Event as EventRecord, WrongLength, Malformed as MalformedRecord}
+use Rattle.frame.specs.Record.{Frame}
+use Rattle.frame.specs.Record.{Line as LineRecord, Event as EventRecord, WrongLength, Malformed as MalformedRecord}
 use Rattle.code.specs.Events.{event_line_of, event_of}
-use Rattle.code.specs.declared.events.EventLine.{EventLine}
+use Rattle.code.specs.Events.{EventLine}
 use Rattle.common.specs.All.{All}
 use Rattle.common.specs.Refusals.{refusal_number}
 use Rattle.common.specs.declared.refusals.Refusal as why

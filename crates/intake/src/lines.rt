@@ -8,7 +8,7 @@ use crate::asks::held;
 use code::{role_line, rule_line};
 use common::Refusal;
 use follow::{Sheet, State};
-use grammar::{Kind, line_kind};
+use grammar::{LineKind, line_kind};
 
 // The packed names of the roles held. The arrays' lengths are those of their types.
 fn role_names(sheet: &Sheet) -> &[u64]
@@ -24,14 +24,14 @@ pub fn declare(state: &mut State, text: &[u8]) -> Result<u64, Refusal>
 {
     let names = role_names(&state.sheet);
     match line_kind(text) {
-        Kind::Role => {
+        Some(LineKind::Role) => {
             let line = role_line(text, names);
             state.declare_role(line)
         }
-        Kind::Rule => {
+        Some(LineKind::Rule) => {
             let line = rule_line(text, names);
             state.declare_rule(line)
         }
-        Kind::Neither => Err(Refusal::NotInLanguage),
+        None => Err(Refusal::NotInLanguage),
     }
 }

@@ -15,8 +15,8 @@ use Rattle.grammar.proofs.Language.{event-taken, event-refused}
 use Rattle.frame.specs.Text.{text_of}
 use Rattle.frame.specs.Record.{event_byte, frame_of}
 use Rattle.frame.specs.Framed.{Framed, Fault, kindless, endless, classless, Says as Frames}
-use Rattle.frame.specs.declared.records.Frame.{Frame}
-use Rattle.frame.specs.declared.records.Frame.TheVariants.{Line as LineRecord, Event as EventRecord, WrongLength, Malformed as MalformedRecord}
+use Rattle.frame.specs.Record.{Frame}
+use Rattle.frame.specs.Record.{Line as LineRecord, Event as EventRecord, WrongLength, Malformed as MalformedRecord}
 use Rattle.frame.proofs.FrameLaws.{frame_exactly}
 use Rattle.patterns.specs.Roles.{all_held}
 use Rattle.intake.specs.Asked.{asks_event, check, asked_event}

@@ -5,8 +5,8 @@ use Rattle.common.specs.declared.refusals.Refusal.TheVariants as why
 use Rattle.frame.specs.Text.{text_of}
 use Rattle.frame.specs.Record.{event_byte, frame_of}
 use Rattle.frame.specs.Framed.{Framed, Says}
-use Rattle.frame.specs.declared.records.Frame.{Frame}
-use Rattle.frame.specs.declared.records.Frame.TheVariants.{Line as LineRecord, Event as EventRecord, WrongLength, Malformed as MalformedRecord}
+use Rattle.frame.specs.Record.{Frame}
+use Rattle.frame.specs.Record.{Line as LineRecord, Event as EventRecord, WrongLength, Malformed as MalformedRecord}
 use Rattle.frame.proofs.FrameLaws.{frame_exactly}
 use Rattle.follow.specs.declared.state.Sheet.{Sheet}
 use Rattle.intake.specs.Names.{Event, Roles}

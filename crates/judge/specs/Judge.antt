@@ -10,8 +10,8 @@ use Rattle.grammar.specs.Lines.{read_event}
 use Rattle.frame.specs.Text.{text_of}
 use Rattle.frame.specs.Record.{frame_of}
 use Rattle.frame.specs.Records.{records_of}
-use Rattle.frame.specs.declared.records.Frame.{Frame}
-use Rattle.frame.specs.declared.records.Frame.TheVariants.{Line as LineRecord, Event as EventRecord, WrongLength, Malformed as MalformedRecord}
+use Rattle.frame.specs.Record.{Frame}
+use Rattle.frame.specs.Record.{Line as LineRecord, Event as EventRecord, WrongLength, Malformed as MalformedRecord}
 use Rattle.patterns.specs.Meets.{order_of, meets}
 use Rattle.positions.specs.Matcher.{matches}
 use Rattle.follow.specs.Meaning.{past_meaning}

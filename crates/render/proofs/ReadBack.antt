@@ -29,7 +29,7 @@ use Rattle.code.specs.Trees.{code_rule}
 use Rattle.frame.specs.Text.{text_of}
 use Rattle.frame.specs.Record.{line_byte, newline, kind_by, frame_of}
 use Rattle.frame.specs.Records.{record_of}
-use Rattle.frame.specs.declared.records.Frame.TheVariants as frames
+use Rattle.frame.specs.Record as frames
 use Rattle.frame.proofs.FrameLaws.{frame_kind}
 use Rattle.frame.proofs.RecordsLaws as made
 use Rattle.columns.specs.Texts.{spaces, padded}

@@ -8,9 +8,9 @@ use Rattle.follow.proofs.rules.compiled.Goals as goal
 pub returns-then-body-walk : goal.returns-then-body-walk
 returns-then-body-walk c =
     let h : length c.args.body.code ≡ 126 = search rules in
-    compiled-short _ _ _ _ h (c.in-Some.ensures.lookup.0.2 ∙ between_from_start _ _) _ c.past-walk.ensures _ refl c.if-body-walk.true
+    compiled-short _ _ _ _ h c.in-Some.ensures.1 _ c.past-walk.ensures _ refl c.if-body-walk.true
 
 pub returns : goal.returns
 returns c =
     let h : length c.args.body.code ≡ 126 = search rules in
-    compiled-right _ _ _ _ h (c.in-Some.ensures.lookup.0.2 ∙ between_from_start _ _) _ c.past-walk.ensures _ _ c.ends.ensures c.row_of.ensures
+    compiled-right _ _ _ _ h c.in-Some.ensures.1 _ c.past-walk.ensures _ _ c.ends.ensures c.row_of.ensures
