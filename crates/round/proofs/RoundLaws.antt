@@ -6,9 +6,9 @@ use mathlib.Core.List.{List, [], ◌++◌}
 use mathlib.Core.Option.{Option, none, some}
 use Prim.Native.Nat.{ℕ, ◌*◌, ◌/◌, ◌≤◌}
 use native.Mathlib.Omega.{arith}
-use lib.Dec.{eqb, leb}
+use lib.Dec.{eqb}
 use lib.ListN.{length, take, drop}
-use borrow.Author.Tests.{eqb-true, eq-eqb, ne_eqb, leb-true}
+use borrow.Author.Tests.{eqb-true, leb-true}
 use Rattle.common.proofs.Bools.{and_left, and_right, held_from, held-not}
 use Rattle.common.specs.Limits.{record_size}
 use Rattle.follow.specs.declared.state.State.{State}
@@ -27,23 +27,16 @@ use Rattle.book.proofs.RoundLaws.{room_told, by_room, by_image, by_batch, by_tak
 use Rattle.monitor.specs.declared.calls.Handled.{Handled}
 use Rattle.batch.specs.Handled.{BatchHandles}
 use Rattle.batch.proofs.BatchRight.{batch-represents}
-use Rattle.snapshot.specs.Written.{Keeps}
+use Rattle.common.specs.Refusals.{refusal_number, answer_number}
+use Rattle.common.specs.declared.refusals.Refusal.{Refusal}
+use Rattle.common.specs.declared.refusals.Refusal.TheVariants.{ReplyLength, RecordLength, Malformed, NotInLanguage, NameTaken, NotDeclared, TooManyPatterns, Full, NoRule, ListLength, BatchLength, ImageTurnedAway, ImageLength}
+use Rattle.std.specs.Prelude.{Result as Answered, Ok, Err, IsErrAnd}
+use Rattle.snapshot.specs.Written.{Kept, Keeps, count_written}
 use Rattle.snapshot.specs.Reading.{RestoredAs, Restores}
-use Rattle.snapshot.specs.declared.keeping.Kept.{Kept}
 use Rattle.snapshot.proofs.StateImage.{image_of_state}
-use Rattle.round.specs.Running.{RoundRuns}
+use Rattle.round.specs.Running.{round_end, RoundRuns}
 
 -- THE IMAGE BUFFER
-
--- another size
-pub other-size : (n used : ℕ) → (n ≡ 16256 → ⊥) → false ≡ room_fits n used
-unfolding room_fits
-other-size n used h = rw (ne_eqb n 16256 h) refl
-
--- the size of 127 records: it is for the used number to tell
-pub by_used : (n used : ℕ) → n ≡ 16256 → leb used 127 ≡ room_fits n used
-unfolding room_fits
-by_used n used h = rw (eq-eqb n 16256 h) refl
 
 -- the used records stand within the buffer
 pub used-within : (q : Bool) (n used : ℕ) → q ≡ room_fits n used → not q ≡ false → used * 128 ≤ n
@@ -53,6 +46,51 @@ used-within q n used told h =
     let s = eqb-true n 16256 (and_left (eqb n 16256) _ e) in
     let w = leb-true used 127 (and_right (eqb n 16256) _ e) in
     omega (arith, s, w)
+
+-- and an image buffer of that size has room for every image
+pub room-whole : (q : Bool) (n used : ℕ) → q ≡ room_fits n used → not q ≡ false → 127 * record_size ≤ n
+unfolding room_fits
+room-whole q n used told h = let s = eqb-true n 16256 (and_left (eqb n 16256) _ (sym told ∙ held_from q h)) in omega (arith, s)
+
+-- WHAT IS HANDED BACK
+
+-- no refusal has the number 0
+pub refusal-some : (e : Refusal) → refusal_number e ≡ 0 → ⊥
+refusal-some ReplyLength z = absurd (omega (arith, z))
+refusal-some RecordLength z = absurd (omega (arith, z))
+refusal-some Malformed z = absurd (omega (arith, z))
+refusal-some NotInLanguage z = absurd (omega (arith, z))
+refusal-some NameTaken z = absurd (omega (arith, z))
+refusal-some NotDeclared z = absurd (omega (arith, z))
+refusal-some TooManyPatterns z = absurd (omega (arith, z))
+refusal-some Full z = absurd (omega (arith, z))
+refusal-some NoRule z = absurd (omega (arith, z))
+refusal-some ListLength z = absurd (omega (arith, z))
+refusal-some BatchLength z = absurd (omega (arith, z))
+refusal-some ImageTurnedAway z = absurd (omega (arith, z))
+refusal-some ImageLength z = absurd (omega (arith, z))
+
+module _ (image : List ℕ) (used : ℕ) (records replies imageAfter repliesAfter : List ℕ) (x : Answered ℕ Refusal) where
+  -- a refusal is handed back, by its number
+  pub refused-end : (e : Refusal) → IsErrAnd x (λ y. y ≡ e) → (n : ℕ) → refusal_number e ≡ n → RoundRuns image used records replies imageAfter repliesAfter (record { number = n; used = used })
+      → RoundRuns image used records replies imageAfter repliesAfter (round_end used x)
+  refused-end e h n k runs = go x h
+    where
+      go : (y : Answered ℕ Refusal) → IsErrAnd y (λ z. z ≡ e) → RoundRuns image used records replies imageAfter repliesAfter (round_end used y)
+      go (Ok a) q = absurd q
+      go (Err z) q =
+          let w : n ≡ refusal_number z = sym (ap refusal_number q ∙ k) in
+          subst (λ (j : ℕ). RoundRuns image used records replies imageAfter repliesAfter (record { number = j; used = used })) w runs
+
+  -- or the new used number, where keeping was not refused
+  pub taken-end : answer_number x ≡ 0 → RoundRuns image used records replies imageAfter repliesAfter (record { number = 0; used = count_written x })
+      → RoundRuns image used records replies imageAfter repliesAfter (round_end used x)
+  taken-end z runs = go x z runs
+    where
+      go : (y : Answered ℕ Refusal) → answer_number y ≡ 0 → RoundRuns image used records replies imageAfter repliesAfter (record { number = 0; used = count_written y })
+          → RoundRuns image used records replies imageAfter repliesAfter (round_end used y)
+      go (Ok n) q h = h
+      go (Err e) q h = absurd (refusal-some e q)
 
 -- KEEPING WITH ROOM
 
@@ -102,6 +140,14 @@ module _ (image : List ℕ) (used : ℕ) (records replies : List ℕ) (q : Bool)
           go none e k = record { is = sym (by_image host lent fits e) }
           go (some m) e k = absurd (z k.0)
 
+      -- by 12, and no other number
+      pub restore-number : (r.number ≡ 0 → ⊥) → r.number ≡ 12
+      restore-number z = go (restored (take (used * record_size) image)) reads.right
+        where
+          go : (o : Option PositionMachine) → RestoredAs f o r → r.number ≡ 12
+          go none k = ap (λ (x : Handled). x.number) k
+          go (some m) k = absurd (z k.0)
+
       -- or it is: the monitor represents the machine that it says
       accepted : r.number ≡ 0 → (m : PositionMachine) × (restored (take (used * record_size) image) ≡ some m) × Represents r.monitor m
       accepted z = go (restored (take (used * record_size) image)) refl reads.right
@@ -122,6 +168,14 @@ module _ (image : List ℕ) (used : ℕ) (records replies : List ℕ) (q : Bool)
                 let m = accepted z in
                 let l = (runs.refused e).buffer in
                 record { is = (λ i. (host, record { number = 11; buffer = l i })) ∙ sym (by_batch host lent fits m.0 m.1 e) }
+
+        -- by 11, and no other number
+        pub batch-number : (b.number ≡ 0 → ⊥) → b.number ≡ 11
+        batch-number y = go (batch_fits records replies) refl
+          where
+            go : (p : Bool) → batch_fits records replies ≡ p → b.number ≡ 11
+            go true e = absurd (y (runs.taken e).number)
+            go false e = ap (λ (x : Handled). x.number) (runs.refused e).is
 
         -- they are one: the image is rewritten for the monitor that it leaves
         pub rewritten-after : b.number ≡ 0 → (imageAfter : List ℕ) (k : Kept) → Keeps b.monitor image imageAfter k

@@ -6,4 +6,4 @@
 mod rounds;
 mod sizes;
 
-pub use rounds::{RoundEnd, run_round};
+pub use rounds::run_round;

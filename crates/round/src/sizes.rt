@@ -9,11 +9,9 @@ const ROOM_RECORDS: u32 = 127;
 const ROOM_SIZE: usize = 16256;
 
 // Whether an image buffer of so many bytes has 127 records, and so many of them can be used.
+#[tactic(auto, unfolding(book::specs::Rounds::room_fits))]
 pub fn room_fits(len: usize, used: u32) -> bool
     ensures { result ≡ room_fits len used }
 {
-    if len != ROOM_SIZE {
-        return false;
-    }
-    used <= ROOM_RECORDS
+    len == ROOM_SIZE && used <= ROOM_RECORDS
 }
