@@ -1,14 +1,13 @@
 -- The judge's answer by the number, the size of the list, and the list.
 -- Assumes nothing.
 use mathlib.Core.Path.{◌≡◌, refl, sym, ap, ◌∙◌, subst}
-use mathlib.Core.Bool.{false}
+use mathlib.Core.Bool.{true, false}
 use mathlib.Core.List.{List, [], ◌∷◌}
 use mathlib.Core.Logic.{⊎_elim}
 use mathlib.Core.Option.{none, some}
-use Prim.Native.Nat.{ℕ, zero, suc, ◌*◌, ◌/◌, ◌%◌, ◌≤◌, ◌<◌}
+use Prim.Native.Nat.{ℕ, zero, suc, ◌/◌, ◌≤◌, ◌<◌}
 use native.Mathlib.Omega.{arith}
 use lib.ListN.{length, take}
-use borrow.Author.Tests.{eq-eqb, ne_eqb, le-leb, lt-leb}
 use Rattle.patterns.proofs.TableNames.{split}
 use Rattle.follow.specs.State as state
 use Rattle.follow.specs.declared.state.State.{State}
@@ -19,6 +18,7 @@ use Rattle.intake.proofs.TakenNames.{rules-long}
 use Rattle.judge.specs.Judge.{rule_numbered, is_whole, judge_of}
 use Rattle.judge.specs.Judging.{ListJudged, Lent, lent_of, Judged}
 use Rattle.judge.proofs.RuleNumbers.{not-newest, is-newest, none_at}
+use Rattle.judge.proofs.RecordsExactly.{true_whole}
 use Rattle.judge.specs.Verdict.{Verdict, NoRule, NotWhole}
 
 -- rule i of those kept is the one that the machine has by that number
@@ -43,14 +43,6 @@ rule_at_lem f (suc k) (y ∷ l) i (rules-more is rest) h = ⊎_elim (λ m. befor
 no_rule_at : (f : State) (k : ℕ) (l : List PositionRule) (i : ℕ) → Rules f k l → k ≤ i → rule_numbered l i ≡ none
 no_rule_at f k l i rules h = none_at l i (subst (λ (j : ℕ). j ≤ i) (sym (rules-long f k l rules)) h)
 
-pub part_uneven : (s : List ℕ) → (length s % 128 ≡ 0 → ⊥) → is_whole s ≡ false
-unfolding is_whole
-part_uneven s h = rw (ne_eqb (length s % 128) 0 h) refl
-
-pub part_long : (s : List ℕ) → length s % 128 ≡ 0 → 32768 < length s → is_whole s ≡ false
-unfolding is_whole
-part_long s h k = rw (eq-eqb (length s % 128) 0 h, lt-leb (length s) 32768 k) refl
-
 module _ (l : Lent) (i : ℕ) (s : List ℕ) where
   -- 9
   pub judged_none : l.rules ≤ i → Judged l i s NoRule
@@ -65,13 +57,12 @@ module _ (l : Lent) (i : ℕ) (s : List ℕ) where
   unfolding judge_of
   judged_part h w = record { right = λ f e t rep. let d = found f e t rep h in rw (d.2, w) refl }
 
-  pub judged_list : i < l.rules → length s % 128 ≡ 0 → length s ≤ 32768 → (r : Verdict) → ListJudged (state.rule_in l.rows l.ends i) 1 s (take l.roles l.names) l.parents r → Judged l i s r
-  unfolding judge_of is_whole
-  judged_list h u small r j =
+  pub judged_list : i < l.rules → is_whole s ≡ true → (r : Verdict) → ListJudged (state.rule_in l.rows l.ends i) 1 s (take l.roles l.names) l.parents r → Judged l i s r
+  unfolding judge_of
+  judged_list h w r j =
       record {
         right = λ f e t rep.
             let d = found f e t rep h in
-            let whole : length s ≡ length s / 128 * 128 = omega arith in
-            rw (d.2, eq-eqb (length s % 128) 0 u, le-leb (length s) 32768 small)
-            (j.right f (ap (λ (k : Lent). take k.roles k.names) e) (ap (λ (k : Lent). k.parents) e) t rep i d.0 d.1 (ap (λ (k : Lent). state.rule_in k.rows k.ends i) e) [] refl (length s / 128) whole);
+            rw (d.2, w)
+            (j.right f (ap (λ (k : Lent). take k.roles k.names) e) (ap (λ (k : Lent). k.parents) e) t rep i d.0 d.1 (ap (λ (k : Lent). state.rule_in k.rows k.ends i) e) [] refl (length s / 128) (true_whole s w).size);
       }

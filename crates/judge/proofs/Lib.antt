@@ -2,8 +2,8 @@ pub mod RuleNumbers
 pub mod Handed
 pub mod RecordLaws
 pub mod ListLaws
-pub mod JudgeLaws
 pub mod Verdicts
 pub mod RecordExactly
 pub mod RecordsExactly
+pub mod JudgeLaws
 pub mod Exactly

@@ -33,7 +33,8 @@ pub fn take(state: &mut State, bytes: &[u8]) -> Result<Taken, Refusal>
         Kind::Refusal => Err(refusal(asked.number)),
         Kind::Line => {
             let line = declare(*state, text(bytes));
-            if line.number == 0 {
+            let taken = line.number == 0;
+            if taken {
                 *state = line.state;
                 return Ok(Taken::Declared(line.name));
             }

@@ -1,6 +1,0 @@
--- `after_record` hands the record to the monitor with a buffer of 50 bytes.
--- Assumes nothing.
-use Rattle.stand.proofs.judging.after_record.Goals as goal
-
-pub returns : goal.returns
-returns c = record { right = λ t rep. (c.handle-handled.ensures.right t rep).monitor }
