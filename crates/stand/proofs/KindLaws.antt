@@ -1,19 +1,15 @@
 -- Kinds of operations, and what a host that names none hands over.
 -- Assumes nothing.
-use mathlib.Core.Path.{◌≡◌, refl, sym, ap, ◌∙◌, subst}
-use mathlib.Core.Bool.{Bool, true, false, not, ◌&&◌}
-use mathlib.Core.List.{List, [], ◌∷◌, ◌++◌, map}
-use Prim.Native.Nat.{ℕ, ◌+◌, ◌≤◌, ◌<◌}
-use native.Mathlib.Omega.{arith}
-use lib.ListN.{length, take, drop, get_or, drop_of_length-le}
-use borrow.Author.Tests.{eq-eqb, ne_eqb, le-leb, lt-leb, not-true, not-false}
-use Rattle.common.proofs.Bools.{true_not_false}
+use Rattle.std.proofs.Common.{◌≡◌, Bool, true, false, not, ◌&&◌, ℕ, zero, suc, ◌+◌, ◌≤◌, ◌<◌, List, [], ◌∷◌, ◌++◌, map, length, take, drop, get_or, eqb, leb, refl, sym, ap, ◌∙◌, subst, arith, is_err}
+use lib.ListN.{drop_of_length-le}
+use borrow.Author.Tests.{eqb-true, eq-eqb, ne_eqb, lt-leb, not-true, not-false}
+use Rattle.common.proofs.Bools.{and_left, and_right, and_both, true_not_false}
 use Rattle.follow.specs.declared.state.State.{State}
 use Rattle.book.specs.Decide.{Answer}
 use Rattle.book.specs.Book.{fresh_book, book_step}
 use Rattle.book.specs.Session.{answers}
 use Rattle.book.specs.Batches.{buffers}
-use Rattle.book.specs.Operations.{call, answered, kept, replaced}
+use Rattle.book.specs.Operations.{Operation as Asked, call, answered, kept, replaced}
 use Rattle.book.specs.SessionBook.{fresh_session, book_operate}
 use Rattle.book.proofs.Runs.{answers-long}
 use Rattle.book.proofs.Whole.{calls_alone}
@@ -23,53 +19,91 @@ use Rattle.batch.specs.Handled.{BatchHandles}
 use Rattle.snapshot.specs.Written.{Keeps}
 use Rattle.snapshot.specs.Reading.{Restores}
 use Rattle.snapshot.specs.declared.keeping.Kept.{Kept}
-use Rattle.stand.specs.Operations.{by_call, by_batch, by_keep, by_restore, Ran}
-use Rattle.stand.specs.Calls.{calls_of, book_answers, Fit, SessionAnswered, SessionRun}
-use Rattle.stand.specs.Kinds.{parts_of, operations_of, all_known, number_in, buffers_of, DoneAs, book_results, OperationsFit, OperationsAnswered, OperationsRun}
-use Rattle.stand.proofs.SizeLaws.{drop_here}
+use Rattle.stand.specs.Operations.{OperatedAs, by_call, by_batch, by_keep, by_restore, Ran}
+use Rattle.stand.specs.Calls.{calls_of, book_answers, Fit, all_fit, SessionAnswered, SessionRun}
+use Rattle.stand.specs.Done.{Done}
+use Rattle.stand.specs.declared.operations.Operation.{Operation}
+use Rattle.stand.specs.Kinds.{kind_of, named_by, operations_fit, Named, operation_of, parts_of, operations_of, all_known, number_in, buffers_of, DoneAs, book_results, OperationsFit, OperationsAnswered, OperationsRun}
+use Rattle.stand.proofs.SizeLaws.{drop_here, fit_told, told_fit}
 
 -- WHETHER ALL ARE KNOWN
 
--- a kind above 3
-pub unknown_here : (l : List ℕ) (k : ℕ) → k < length l → all_known l ≡ all_known (drop k l) → 3 < get_or l k 0 → false ≡ all_known l
+-- the kinds that name no operation are those above 3
+pub names_none : (k : ℕ) → is_err (named_by k) ≡ not (leb k 3)
+names_none zero = refl
+names_none (suc zero) = refl
+names_none (suc (suc zero)) = refl
+names_none (suc (suc (suc zero))) = refl
+names_none (suc (suc (suc (suc k)))) =
+    let n : ℕ = suc (suc (suc (suc k))) in
+    rw (ne_eqb n 0 (λ e. absurd (omega arith)), ne_eqb n 1 (λ e. absurd (omega arith)), ne_eqb n 2 (λ e. absurd (omega arith)), ne_eqb n 3 (λ e. absurd (omega arith)), lt-leb n 3 (omega arith)) refl
+
+-- no kind but these before k, and the one here is none
+pub unknown_here : (l : List ℕ) (k : ℕ) → k < length l → all_known l ≡ all_known (drop k l) → is_err (named_by (get_or l k 0)) ≡ true → false ≡ all_known l
 unfolding all_known
-unknown_here l k more inv h = sym (inv ∙ ap all_known (drop_here k l more) ∙ ap (λ (q : Bool). q && all_known (drop (k + 1) l)) (lt-leb (get_or l k 0) 3 h))
+unknown_here l k more inv h =
+    let none : leb (get_or l k 0) 3 ≡ false = not-true (leb (get_or l k 0) 3) (sym (names_none (get_or l k 0)) ∙ h) in
+    sym (inv ∙ ap all_known (drop_here k l more) ∙ ap (λ (q : Bool). q && all_known (drop (k + 1) l)) none)
 
 -- one more is known
-pub known_here : (l : List ℕ) (k : ℕ) → k < length l → all_known l ≡ all_known (drop k l) → get_or l k 0 ≤ 3 → all_known l ≡ all_known (drop (k + 1) l)
+pub known_here : (l : List ℕ) (k : ℕ) → k < length l → all_known l ≡ all_known (drop k l) → is_err (named_by (get_or l k 0)) ≡ false → all_known l ≡ all_known (drop (k + 1) l)
 unfolding all_known
-known_here l k more inv h = inv ∙ ap all_known (drop_here k l more) ∙ ap (λ (q : Bool). q && all_known (drop (k + 1) l)) (le-leb (get_or l k 0) 3 h)
+known_here l k more inv h =
+    let one : leb (get_or l k 0) 3 ≡ true = not-false (leb (get_or l k 0) 3) (sym (names_none (get_or l k 0)) ∙ h) in
+    inv ∙ ap all_known (drop_here k l more) ∙ ap (λ (q : Bool). q && all_known (drop (k + 1) l)) one
 
 -- all are
 pub known-all : (l : List ℕ) (k : ℕ) → length l ≤ k → all_known l ≡ all_known (drop k l) → true ≡ all_known l
 unfolding all_known
 known-all l k end inv = sym (inv ∙ ap all_known (drop_of_length-le l end))
 
--- what the answer of `all_known` tells
-pub known-told : (r : Bool) (l : List ℕ) → r ≡ all_known l → not r ≡ false → all_known l ≡ true
-known-told r l e h = sym e ∙ not-false r h
+-- WHETHER ALL FIT
 
-pub unknown_told : (r : Bool) (l : List ℕ) → r ≡ all_known l → not r ≡ true → all_known l ≡ true → ⊥
-unknown_told r l e h k = true_not_false r (e ∙ k) (not-true r h)
+pub operations_fit_told : (ks s ns ws b cs es : List ℕ) → operations_fit ks ns (length s) ws (length b) (length cs) (length es) ≡ true → OperationsFit ks s ns ws b cs es
+unfolding operations_fit
+operations_fit_told ks s ns ws b cs es e₀ =
+    let e₁ = and_right (all_known ks) _ e₀ in
+    let e₂ = and_right (eqb (length ks) (length ns)) _ e₁ in
+    record {
+      known = and_left (all_known ks) _ e₀;
+      kinds = eqb-true (length ks) (length ns) (and_left (eqb (length ks) (length ns)) _ e₁);
+      counts = eqb-true (length es) (length ns) (and_left (eqb (length es) (length ns)) _ e₂);
+      sizes = fit_told s ns ws b cs (and_right (eqb (length es) (length ns)) _ e₂);
+    }
+
+told_operations_fit : (ks s ns ws b cs es : List ℕ) → OperationsFit ks s ns ws b cs es → operations_fit ks ns (length s) ws (length b) (length cs) (length es) ≡ true
+unfolding operations_fit
+told_operations_fit ks s ns ws b cs es f =
+    and_both f.known (and_both (eq-eqb (length ks) (length ns) f.kinds) (and_both (eq-eqb (length es) (length ns) f.counts) (told_fit s ns ws b cs f.sizes)))
 
 -- BY KIND
 
-module _ (k : ℕ) (m : State) (s lent left : List ℕ) where
-  pub by_batch_kind : (r : Handled) → k ≡ 1 → BatchHandles m s lent left r → DoneAs k m s lent left (record { number = r.number; count = 0; monitor = r.monitor })
-  by_batch_kind r e h =
-      record { result = answered (record { number = r.number; buffer = left }); operated = rw (eq-eqb k 1 e) (by_batch h); number = refl; count = refl; buffer = refl }
+-- what the operation does is done as the kind names it
+pub named_done : (k : ℕ) (o : Operation) (m : State) (s lent left : List ℕ) (d : Done) → Named k o → DoneAs (kind_of o) m s lent left d → DoneAs k m s lent left d
+named_done k o m s lent left d n h =
+    record {
+      result = h.result;
+      operated = subst (λ (x : Asked). OperatedAs m x h.result d.monitor) (sym (n.same s lent)) h.operated;
+      number = h.number;
+      count = h.count;
+      buffer = h.buffer;
+    }
 
-  pub by_keep_kind : (r : Kept) → (k ≡ 1 → ⊥) → k ≡ 2 → Keeps m lent left r → DoneAs k m s lent left (record { number = r.number; count = r.count; monitor = r.monitor })
-  by_keep_kind r e₁ e h =
-      record { result = kept r.number r.count left; operated = rw (ne_eqb k 1 e₁, eq-eqb k 2 e) (by_keep h); number = refl; count = refl; buffer = refl }
+module _ (m : State) (s lent left : List ℕ) where
+  pub by_batch_kind : (r : Handled) (d : Done) → BatchHandles m s lent left r → d ≡ record { number = r.number; count = 0; monitor = r.monitor } → DoneAs 1 m s lent left d
+  by_batch_kind r d h e =
+      rw e (record { result = answered (record { number = r.number; buffer = left }); operated = by_batch h; number = refl; count = refl; buffer = refl })
 
-  pub by_restore_kind : (r : Handled) → (k ≡ 1 → ⊥) → (k ≡ 2 → ⊥) → k ≡ 3 → left ≡ lent → Restores m s r → DoneAs k m s lent left (record { number = r.number; count = 0; monitor = r.monitor })
-  by_restore_kind r e₁ e₂ e q h =
-      record { result = replaced r.number; operated = rw (ne_eqb k 1 e₁, ne_eqb k 2 e₂, eq-eqb k 3 e) (by_restore h); number = refl; count = refl; buffer = q }
+  pub by_keep_kind : (r : Kept) → Keeps m lent left r → DoneAs 2 m s lent left (record { number = r.number; count = r.count; monitor = r.monitor })
+  by_keep_kind r h = record { result = kept r.number r.count left; operated = by_keep h; number = refl; count = refl; buffer = refl }
 
-  pub by_call_kind : (r : Handled) → (k ≡ 1 → ⊥) → (k ≡ 2 → ⊥) → (k ≡ 3 → ⊥) → Handles m s lent left r → DoneAs k m s lent left (record { number = r.number; count = 0; monitor = r.monitor })
-  by_call_kind r e₁ e₂ e₃ h =
-      record { result = answered (record { number = r.number; buffer = left }); operated = rw (ne_eqb k 1 e₁, ne_eqb k 2 e₂, ne_eqb k 3 e₃) (by_call h); number = refl; count = refl; buffer = refl }
+  pub by_restore_kind : (r : Handled) (d : Done) → left ≡ lent → Restores m s r → d ≡ record { number = r.number; count = 0; monitor = r.monitor } → DoneAs 3 m s lent left d
+  by_restore_kind r d q h e =
+      rw e (record { result = replaced r.number; operated = by_restore h; number = refl; count = refl; buffer = q })
+
+  pub by_call_kind : (r : Handled) (d : Done) → Handles m s lent left r → d ≡ record { number = r.number; count = 0; monitor = r.monitor } → DoneAs 0 m s lent left d
+  by_call_kind r d h e =
+      rw e (record { result = answered (record { number = r.number; buffer = left }); operated = by_call h; number = refl; count = refl; buffer = refl })
 
 -- NO KINDS: single calls
 
@@ -107,14 +141,18 @@ calls-answered s ns ws lent left told es counted h =
 
 -- THE TWO SESSIONS OF THE LIBRARY, by what their tests tell
 
-pub session-refused : (s ns ws lent cs : List ℕ) → (Fit s ns ws lent cs → ⊥) → SessionRun s ns ws lent lent cs cs 11
-session-refused s ns ws lent cs h = record { taken = λ f. absurd (h f); refused = λ n. (refl, refl, refl) }
+pub session-refused : (s ns ws lent cs : List ℕ) → all_fit ns (length s) ws (length lent) (length cs) ≡ false → SessionRun s ns ws lent lent cs cs 11
+session-refused s ns ws lent cs e =
+    let h : Fit s ns ws lent cs → ⊥ = λ f. true_not_false (all_fit ns (length s) ws (length lent) (length cs)) (told_fit s ns ws lent cs f) e in
+    record { taken = λ f. absurd (h f); refused = λ n. (refl, refl, refl) }
 
 pub session-taken : (s ns ws lent left cs told es counted : List ℕ) → Fit s ns ws lent cs → OperationsAnswered [] s ns ws lent left told es counted → SessionRun s ns ws lent left cs told 0
 session-taken s ns ws lent left cs told es counted h a = record { taken = λ f. (refl, calls-answered s ns ws lent left told es counted a); refused = λ n. absurd (n h) }
 
-pub operations_refused : (ks s ns ws lent cs es : List ℕ) → (OperationsFit ks s ns ws lent cs es → ⊥) → OperationsRun ks s ns ws lent lent cs cs es es 11
-operations_refused ks s ns ws lent cs es h = record { taken = λ f. absurd (h f); refused = λ n. (refl, refl, refl, refl) }
+pub operations_refused : (ks s ns ws lent cs es : List ℕ) → operations_fit ks ns (length s) ws (length lent) (length cs) (length es) ≡ false → OperationsRun ks s ns ws lent lent cs cs es es 11
+operations_refused ks s ns ws lent cs es e =
+    let h : OperationsFit ks s ns ws lent cs es → ⊥ = λ f. true_not_false (operations_fit ks ns (length s) ws (length lent) (length cs) (length es)) (told_operations_fit ks s ns ws lent cs es f) e in
+    record { taken = λ f. absurd (h f); refused = λ n. (refl, refl, refl, refl) }
 
 pub operations_taken : (ks s ns ws lent left cs told es counted : List ℕ) → OperationsFit ks s ns ws lent cs es → OperationsAnswered ks s ns ws lent left told es counted
     → OperationsRun ks s ns ws lent left cs told es counted 0

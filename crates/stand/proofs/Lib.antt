@@ -1,7 +1,7 @@
 pub mod SizeLaws
 pub mod WholeSession
-pub mod RunLaws
 pub mod KindLaws
+pub mod RunLaws
 pub mod SheetLaws
 pub mod HandedOver
 pub mod HostSessions

@@ -15,8 +15,10 @@ use Rattle.monitor.specs.Sessions.{Begun}
 use Rattle.batch.proofs.PartLaws.{Filled, filled_none, part_lent, same_room, filled_more, filled-set, filled-all}
 use Rattle.stand.specs.Operations.{OperatedAs, Operated}
 use Rattle.stand.specs.Calls.{total, Fit}
-use Rattle.stand.specs.Kinds.{Part, operation_of, operation_in, parts_of, operations_of, number_in, count_in, buffer_after, buffers_of, DoneAs, OperationsAnswered}
-use Rattle.stand.specs.declared.operations.Done.{Done}
+use Rattle.stand.specs.declared.operations.Operation as code
+use Rattle.stand.specs.Kinds.{Part, kind_of, Named, operation_of, operation_in, parts_of, operations_of, number_in, count_in, buffer_after, buffers_of, DoneAs, OperationsAnswered}
+use Rattle.stand.specs.Done.{Done}
+use Rattle.stand.proofs.KindLaws.{named_done}
 use Rattle.stand.proofs.SizeLaws.{total_here, total-end, drop_here}
 use Rattle.stand.proofs.WholeSession.{operations_are_book}
 
@@ -147,23 +149,23 @@ module _ (ks s ns ws b cs es : List ℕ) (f : State) (left told counted : List �
             room = omega (arith, p.room, total_here k ws size-there);
           }
 
-    -- the same, with the numbers as the code has them
-    pub worked : (i n w : ℕ) (y after : List ℕ) (d : Done) → i ≡ get_or ks k 0 → n ≡ get_or ns k 0 → w ≡ get_or ws k 0 → after ≡ set counted k d.count
-        → DoneAs i f (take (at + n - at) (drop at s)) (take (to + w - to) (drop to left)) y d → length y ≡ length (take (to + w - to) (drop to left))
-        → Progress ks s ns ws b cs es d.monitor (put_mid to (to + w - to) left y) (set told k d.number) after (at + n) (to + w) (k + 1)
-    worked i n w y after d ei en ew ec h sized =
+    -- the same, of the operation and the parts as the code has them
+    pub worked : (o : code.Operation) (y after : List ℕ) (d : Done) → Named (get_or ks k 0) o → after ≡ set counted k d.count
+        → DoneAs (kind_of o) f (take (at + get_or ns k 0 - at) (drop at s)) (take (to + get_or ws k 0 - to) (drop to left)) y d → length y ≡ length (take (to + get_or ws k 0 - to) (drop to left))
+        → Progress ks s ns ws b cs es d.monitor (put_mid to (to + get_or ws k 0 - to) left y) (set told k d.number) after (at + get_or ns k 0) (to + get_or ws k 0) (k + 1)
+    worked o y after d named ec h sized =
+        let n : ℕ = get_or ns k 0 in
+        let w : ℕ = get_or ws k 0 in
         let ed : to + w - to ≡ w = omega arith in
         let ee : at + n - at ≡ n = omega arith in
         let told' = set told k d.number in
-        let h₁ = subst (λ (j : ℕ). DoneAs i f (take (at + n - at) (drop at s)) (take j (drop to left)) y d) (ed ∙ ew) h in
-        let h₂ = subst (λ (j : ℕ). DoneAs i f (take j (drop at s)) (take (get_or ws k 0) (drop to left)) y d) (ee ∙ en) h₁ in
-        let h₃ = subst (λ (j : ℕ). DoneAs j f (take (get_or ns k 0) (drop at s)) (take (get_or ws k 0) (drop to left)) y d) ei h₂ in
-        let room : get_or ws k 0 ≤ length (drop to left) = omega (arith, length-drop to left, part_ends, room_same) in
-        let long : length y ≡ get_or ws k 0 = sized ∙ ap (λ (j : ℕ). length (take j (drop to left))) (ed ∙ ew) ∙ length-take-le (get_or ws k 0) (drop to left) room in
-        let q₀ = subst (λ (v : List ℕ). Progress ks s ns ws b cs es d.monitor (put_mid to (get_or ws k 0) left y) told' v (at + get_or ns k 0) (to + get_or ws k 0) (k + 1)) (sym ec) (step y d h₃ long) in
-        let q₁ = subst (λ (j : ℕ). Progress ks s ns ws b cs es d.monitor (put_mid to (get_or ws k 0) left y) told' after (at + get_or ns k 0) (to + j) (k + 1)) (sym ew) q₀ in
-        let q₂ = subst (λ (j : ℕ). Progress ks s ns ws b cs es d.monitor (put_mid to (get_or ws k 0) left y) told' after (at + j) (to + w) (k + 1)) (sym en) q₁ in
-        subst (λ (j : ℕ). Progress ks s ns ws b cs es d.monitor (put_mid to j left y) told' after (at + n) (to + w) (k + 1)) (sym (ed ∙ ew)) q₂
+        let h₁ = subst (λ (j : ℕ). DoneAs (kind_of o) f (take (at + n - at) (drop at s)) (take j (drop to left)) y d) ed h in
+        let h₂ = subst (λ (j : ℕ). DoneAs (kind_of o) f (take j (drop at s)) (take w (drop to left)) y d) ee h₁ in
+        let h₃ = named_done (get_or ks k 0) o f (take n (drop at s)) (take w (drop to left)) y d named h₂ in
+        let room : w ≤ length (drop to left) = omega (arith, length-drop to left, part_ends, room_same) in
+        let long : length y ≡ w = sized ∙ ap (λ (j : ℕ). length (take j (drop to left))) ed ∙ length-take-le w (drop to left) room in
+        let q = subst (λ (v : List ℕ). Progress ks s ns ws b cs es d.monitor (put_mid to w left y) told' v (at + n) (to + w) (k + 1)) (sym ec) (step y d h₃ long) in
+        subst (λ (j : ℕ). Progress ks s ns ws b cs es d.monitor (put_mid to j left y) told' after (at + n) (to + w) (k + 1)) (sym ed) q
 
   -- all operations are worked
   pub finished : length ns ≤ k → OperationsAnswered ks s ns ws b left told es counted

@@ -23,10 +23,6 @@ total_here k l h = ap total (drop_here k l h)
 pub total-end : (k : ℕ) (l : List ℕ) → length l ≤ k → total (drop k l) ≡ 0
 total-end k l h = ap total (drop_of_length-le l h)
 
-and_none : (a : Bool) → (a && false) ≡ false
-and_none true = refl
-and_none false = refl
-
 -- less is left than the next size
 pub too_short : (l : List ℕ) (k left n len : ℕ) → k < length l → total l + left ≡ len + total (drop k l) → n ≡ get_or l k 0 → left < n → false ≡ eqb (total l) len
 too_short l k left n len more inv e h = sym (ne_eqb (total l) len (λ same. omega (arith, same, inv, e, h, total_here k l more)))
@@ -43,30 +39,11 @@ all_off l k left len end inv = taken (total l) left len (omega (arith, inv, tota
     taken t zero n h = sym (eq-eqb t n (omega (arith, h)))
     taken t (suc x) n h = ne_eqb (suc x) 0 (λ e. omega (arith, e)) ∙ sym (ne_eqb t n (λ e. omega (arith, h, e)))
 
--- WHETHER ALL FIT, by what `fits` tells and the counts
+-- WHETHER ALL FIT
 
-pub lengths_unfit : (r : Bool) (ns : List ℕ) (n : ℕ) (ws : List ℕ) (m k : ℕ) → r ≡ eqb (total ns) n → not r ≡ true → false ≡ all_fit ns n ws m k
+pub fit_told : (s ns ws b cs : List ℕ) → all_fit ns (length s) ws (length b) (length cs) ≡ true → Fit s ns ws b cs
 unfolding all_fit
-lengths_unfit r ns n ws m k e h = rw (sym e ∙ not-true r h) refl
-
-pub sizes-unfit : (r : Bool) (ns : List ℕ) (n : ℕ) (ws : List ℕ) (m k : ℕ) → r ≡ eqb (total ws) m → not r ≡ true → false ≡ all_fit ns n ws m k
-unfolding all_fit
-sizes-unfit r ns n ws m k e h = rw (sym e ∙ not-true r h) (sym (and_none (eqb (total ns) n)))
-
-pub counts_differ : (ns : List ℕ) (n : ℕ) (ws : List ℕ) (m k : ℕ) → (length ns ≡ length ws → ⊥) → false ≡ all_fit ns n ws m k
-unfolding all_fit
-counts_differ ns n ws m k h = rw (ne_eqb (length ns) (length ws) h) (sym (ap (λ (q : Bool). eqb (total ns) n && q) (and_none (eqb (total ws) m)) ∙ and_none (eqb (total ns) n)))
-
-pub by_count : (r q : Bool) (ns : List ℕ) (n : ℕ) (ws : List ℕ) (m k : ℕ) → r ≡ eqb (total ns) n → not r ≡ false → q ≡ eqb (total ws) m → not q ≡ false → length ns ≡ length ws
-    → eqb (length ns) k ≡ all_fit ns n ws m k
-unfolding all_fit
-by_count r q ns n ws m k e h f g c = rw (sym e ∙ not-false r h, sym f ∙ not-false q g, eq-eqb (length ns) (length ws) c) refl
-
--- what the answer of `all_fit` tells
-pub fit_told : (r : Bool) (s ns ws b cs : List ℕ) → r ≡ all_fit ns (length s) ws (length b) (length cs) → not r ≡ false → Fit s ns ws b cs
-unfolding all_fit
-fit_told r s ns ws b cs e h =
-    let e₀ = sym e ∙ not-false r h in
+fit_told s ns ws b cs e₀ =
     let e₁ = and_right (eqb (total ns) (length s)) _ e₀ in
     let e₂ = and_right (eqb (total ws) (length b)) _ e₁ in
     record {
@@ -76,10 +53,8 @@ fit_told r s ns ws b cs e h =
       numbers = eqb-true (length ns) (length cs) (and_right (eqb (length ns) (length ws)) _ e₂);
     }
 
-pub unfit-told : (r : Bool) (s ns ws b cs : List ℕ) → r ≡ all_fit ns (length s) ws (length b) (length cs) → not r ≡ true → Fit s ns ws b cs → ⊥
+pub told_fit : (s ns ws b cs : List ℕ) → Fit s ns ws b cs → all_fit ns (length s) ws (length b) (length cs) ≡ true
 unfolding all_fit
-unfit-told r s ns ws b cs e h f =
-    let all =
+told_fit s ns ws b cs f =
     and_both (eq-eqb (total ns) (length s) f.records)
-    (and_both (eq-eqb (total ws) (length b) f.replies) (and_both (eq-eqb (length ns) (length ws) f.sizes) (eq-eqb (length ns) (length cs) f.numbers))) in
-    true_not_false r (e ∙ all) (not-true r h)
+    (and_both (eq-eqb (total ws) (length b) f.replies) (and_both (eq-eqb (length ns) (length ws) f.sizes) (eq-eqb (length ns) (length cs) f.numbers)))

@@ -1,13 +1,18 @@
 -- Operations as a host hands them over: a kind for each, and its buffers after those of the one before, with the sizes beside them.
 -- Assumes nothing.
-use Rattle.std.specs.Prelude.{◌≡◌, Bool, true, cond, ◌&&◌, List, [], ◌∷◌, ◌++◌, map, ℕ, eqb, leb, length, take, drop, get_or}
+use Rattle.std.specs.Prelude.{◌≡◌, Bool, true, cond, ◌&&◌, List, [], ◌∷◌, ◌++◌, map, ℕ, eqb, leb, length, take, drop, get_or, Ok, Err}
+use Rattle.std.specs.Prelude as prelude
+use Rattle.common.specs.declared.refusals.Refusal.{Refusal}
+use Rattle.common.specs.declared.refusals.Refusal.TheVariants.{BatchLength}
 use Rattle.follow.specs.declared.state.State.{State}
 use Rattle.book.specs.Session.{answers}
 use Rattle.book.specs.Operations.{Operation, call, batch, keep, restore, Result, answered, kept, replaced}
 use Rattle.book.specs.SessionBook.{fresh_session, book_operate}
 use Rattle.stand.specs.Operations.{OperatedAs, Ran}
-use Rattle.stand.specs.Calls.{Fit}
-use Rattle.stand.specs.declared.operations.Done.{Done}
+use Rattle.stand.specs.Calls.{Fit, all_fit}
+use Rattle.stand.specs.Done.{Done}
+use Rattle.stand.specs.declared.operations.Operation as host
+use Rattle.stand.specs.declared.operations.Operation.TheVariants as kind
 
 -- WHAT A HOST HANDS OVER
 
@@ -20,6 +25,22 @@ keep_kind = 2
 
 abbrev pub restore_kind : ℕ
 restore_kind = 3
+
+-- the kind of an operation
+abbrev pub kind_of : host.Operation → ℕ
+kind_of kind.Call = 0
+kind_of kind.Batch = batch_kind
+kind_of kind.Keep = keep_kind
+kind_of kind.Restore = restore_kind
+
+-- the operation that a kind names, of these four; else 11
+abbrev pub named_by : ℕ → prelude.Result host.Operation Refusal
+named_by k =
+    cond (eqb k 0) (Ok kind.Call)
+    (cond (eqb k batch_kind) (Ok kind.Batch)
+    (cond (eqb k keep_kind) (Ok kind.Keep)
+    (cond (eqb k restore_kind) (Ok kind.Restore)
+    (Err BatchLength))))
 
 -- one operation as handed over: its kind, its part of the records, and its part of the reply buffer as lent
 pub record Part : Type 0 where
@@ -79,6 +100,10 @@ buffers_of [] rs = []
 buffers_of (p ∷ ps) [] = []
 buffers_of (p ∷ ps) (r ∷ rs) = buffer_after p.lent r ++ buffers_of ps rs
 
+-- what the operation o does is what the kind k names
+pub record Named (k : ℕ) (o : host.Operation) : Type 0 where
+  pub same : (s b : List ℕ) → operation_of k s b ≡ operation_of (kind_of o) s b
+
 -- one operation done: some result of it, by what its function promises, is what is handed back
 pub record DoneAs (k : ℕ) (m : State) (s lent left : List ℕ) (d : Done) : Type 0 where
   pub result : Result
@@ -97,6 +122,10 @@ pub record OperationsFit (ks s ns ws b cs es : List ℕ) : Type 0 where
   pub kinds : length ks ≡ length ns
   pub counts : length es ≡ length ns
   pub sizes : Fit s ns ws b cs
+
+-- the same as a test, of the buffers' lengths
+unfoldable pub operations_fit : List ℕ → List ℕ → ℕ → List ℕ → ℕ → ℕ → ℕ → Bool
+operations_fit ks ns n ws m k e = all_known ks && (eqb (length ks) (length ns) && (eqb e (length ns) && all_fit ns n ws m k))
 
 -- demand 3, as a host sees it: there is a run of the operations, and every number, every count and every byte of the reply buffers is the book's
 pub record OperationsAnswered (ks s ns ws lent left told es counted : List ℕ) : Type 0 where

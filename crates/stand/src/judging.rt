@@ -1,19 +1,17 @@
-// What the judge over a sheet needs: the monitor that the sheet leaves, and an answer as a number.
-ghost use Rattle.std.specs.Prelude.{◌≡◌};
-ghost use Rattle.stand.specs.Sheets.{answer_number, RecordLeaves, SheetLeaves};
+// What the judge over a sheet needs: the monitor that the sheet leaves.
+ghost use Rattle.stand.specs.Sheets.{RecordLeaves, SheetLeaves};
 
-use crate::sizes::SHIFT;
+use common::sizes::{RECORD_SIZE, REPLY_SIZE};
 use follow::State;
-use judge::Verdict;
 use monitor::handle;
 
-// The monitor after a record, its reply dropped.
-fn after_record(monitor: State, bytes: &[u8]) -> State
-    ensures { RecordLeaves monitor bytes.now result }
+// Hands a record to the monitor, its reply dropped.
+fn take_in(monitor: &mut State, bytes: &[u8])
+    ensures { RecordLeaves monitor.old bytes.now monitor.new }
 {
-    let mut reply = [0u8; 50];
-    let handled = handle(monitor, bytes, &mut reply);
-    handled.monitor
+    let mut reply = [0u8; REPLY_SIZE];
+    let handled = handle(*monitor, bytes, &mut reply);
+    *monitor = handled.monitor;
 }
 
 // The monitor that a sheet leaves.
@@ -21,26 +19,8 @@ pub fn after(sheet: &[u8]) -> State
     ensures { SheetLeaves sheet.now result }
 {
     let mut monitor = monitor::new();
-    let mut at = 0;
-    while 128 <= sheet.len() - at {
-        let end = at + 128;
-        monitor = after_record(monitor, &sheet[at..end]);
-        at = end;
+    for record in sheet.chunks_exact(RECORD_SIZE) {
+        take_in(&mut monitor, record);
     }
     monitor
-}
-
-// The number of a verdict, as a host gets it.
-pub fn number_of(v: Verdict) -> u64
-    ensures { result ≡ answer_number v }
-{
-    match v {
-        Verdict::Yes => 1,
-        Verdict::No => 0,
-        Verdict::NoRule => 9 * SHIFT,
-        Verdict::NotWhole => 10 * SHIFT,
-        Verdict::Malformed => 3 * SHIFT,
-        Verdict::NotInLanguage => 4 * SHIFT,
-        Verdict::Unknown => 6 * SHIFT,
-    }
 }

@@ -4,6 +4,7 @@
 #![tactic(auto)]
 
 mod judging;
+mod numbers;
 mod operations;
 mod sessions;
 mod sizes;
@@ -14,12 +15,13 @@ ghost use Rattle.stand.specs.Kinds.{OperationsRun};
 ghost use Rattle.stand.specs.Rounds.{StandRuns};
 ghost use Rattle.stand.specs.Sheets.{sheet_judged};
 
-use judge::judge;
-use judging::{after, number_of};
-use operations::all_known;
+use common::Refusal;
+use common::sizes::RECORD_SIZE;
+use judge::SheetView;
+use judging::after;
+use numbers::{SHIFT, answered, refused};
 use round::run_round;
-use sessions::run;
-use sizes::{SHIFT, all_fit};
+use sessions::Session;
 
 // A batch on the monitor that a host holds as an image: the first `used` records of the image buffer are restored, the batch is run, and the image buffer is rewritten; its bytes
 // past the new image stay. Answers the refusal's number times 4,294,967,296 plus the used number: 0 and the new one; or 13, 12 or 11, looked at in this order, with all buffers
@@ -42,11 +44,16 @@ pub fn stand_session(
 ) -> u32
     ensures { SessionRun records.now lengths.now sizes.now replies.old replies.new numbers.old numbers.new result }
 {
-    if !all_fit(records.len(), lengths, replies.len(), sizes, numbers.len()) {
-        return 11;
+    let session = Session {
+        kinds: &[],
+        records,
+        lengths,
+        sizes,
+    };
+    if !session.fits(replies.len(), numbers.len()) {
+        return u32::from(Refusal::BatchLength.number());
     }
-    let mut none: [u32; 0] = [];
-    run(b"", records, lengths, replies, sizes, numbers, &mut none);
+    session.run(replies, numbers, &mut []);
     0
 }
 
@@ -64,19 +71,16 @@ pub fn stand_operations(
 ) -> u32
     ensures { OperationsRun kinds.now records.now lengths.now sizes.now replies.old replies.new numbers.old numbers.new counts.old counts.new result }
 {
-    if !all_known(kinds) {
-        return 11;
+    let session = Session {
+        kinds,
+        records,
+        lengths,
+        sizes,
+    };
+    if !session.operations_fit(replies.len(), numbers.len(), counts.len()) {
+        return u32::from(Refusal::BatchLength.number());
     }
-    if kinds.len() != lengths.len() {
-        return 11;
-    }
-    if counts.len() != lengths.len() {
-        return 11;
-    }
-    if !all_fit(records.len(), lengths, replies.len(), sizes, numbers.len()) {
-        return 11;
-    }
-    run(kinds, records, lengths, replies, sizes, numbers, counts);
+    session.run(replies, numbers, counts);
     0
 }
 
@@ -85,18 +89,10 @@ pub fn stand_operations(
 pub fn stand_judge(sheet: &[u8], number: u32, records: &[u8]) -> u64
     ensures { result ≡ sheet_judged sheet.now number records.now }
 {
-    if sheet.len() % 128 != 0 {
-        return 11 * SHIFT;
+    let rest = sheet.len() % RECORD_SIZE;
+    if rest != 0 {
+        return refused(Refusal::BatchLength);
     }
     let monitor = after(sheet);
-    number_of(judge(
-        &monitor.sheet.names,
-        monitor.sheet.role_count,
-        &monitor.sheet.parents,
-        &monitor.sheet.rows,
-        &monitor.sheet.ends,
-        monitor.sheet.rule_count,
-        number as usize,
-        records,
-    ))
+    answered(SheetView::from(&monitor.sheet).judge(number as usize, records))
 }

@@ -1,52 +1,75 @@
 // Operations by their kinds, as a host names them.
 ghost use Rattle.std.specs.Prelude.{◌≡◌, get_or, set};
-ghost use Rattle.stand.specs.Kinds.{all_known, DoneAs};
+ghost use Rattle.stand.specs.Done.{done_of};
+ghost use Rattle.stand.specs.Kinds.{kind_of, named_by, all_known, Named, DoneAs};
 
 use batch::handle_batch;
+use common::Refusal;
 use follow::State;
 use monitor::{Handled, handle};
-use snapshot::{Kept, keep, restore};
+use snapshot::{keep, restore};
 
-// The kinds that name a batch, keeping and restoring; 0 names a single call.
-const BATCH: u8 = 1;
+// What a host does with a monitor.
+#[derive(Clone, Copy, Debug, PartialEq, Eq)]
+pub enum Operation {
+    Call,
+    Batch,
+    Keep,
+    Restore,
+}
 
-const KEEP: u8 = 2;
+impl TryFrom<u8> for Operation {
+    type Error = Refusal;
 
-const RESTORE: u8 = 3;
+    ghost try_from_gives = { λ kind operation. operation ≡ named_by kind };
 
-// The number of an operation, how many records it wrote, which keeping alone does, and the monitor after it.
-#[derive(Clone, Copy)]
+    // The operation that a kind names. Only here do kinds have their numbers.
+    fn try_from(kind: u8) -> Result<Operation, Refusal> {
+        match kind {
+            0 => Ok(Operation::Call),
+            1 => Ok(Operation::Batch),
+            2 => Ok(Operation::Keep),
+            3 => Ok(Operation::Restore),
+            _ => Err(Refusal::BatchLength),
+        }
+    }
+}
+
+// The number of an operation, and how many records it wrote, which keeping alone does.
+#[derive(Clone, Copy, Debug, PartialEq, Eq)]
 pub struct Done {
     pub number: u8,
     pub count: u32,
-    pub monitor: State,
 }
 
 // Whether every kind is one of the four.
 pub fn all_known(kinds: &[u8]) -> bool
     ensures { result ≡ all_known kinds.now }
 {
-    let mut k = 0;
-    while k < kinds.len() {
-        if RESTORE < kinds[k] {
+    for kind in kinds {
+        if Operation::try_from(*kind).is_err() {
             return false;
         }
-        k += 1;
     }
     true
 }
 
-// The kind at a place; past the last one stand single calls.
-pub fn kind_at(kinds: &[u8], k: usize) -> u8
-    ensures { result ≡ get_or kinds.now k 0 }
+// The operation of a kind; a single call where the kind names none.
+fn operation_of(kind: u8) -> Operation
+    ensures { Named kind result }
 {
-    if k < kinds.len() {
-        return kinds[k];
-    }
-    0
+    Operation::try_from(kind).unwrap_or(Operation::Call)
+}
+
+// The operation at a place; past the last kind stand single calls.
+pub fn operation_at(kinds: &[u8], k: usize) -> Operation
+    ensures { Named (get_or kinds.now k 0) result }
+{
+    operation_of(kinds.get(k).copied().unwrap_or(0))
 }
 
 // A count in its place, where there is one.
+// Kept: written through `get_mut`, the proof knows nothing of the slice afterwards.
 pub fn put_count(counts: &mut [u32], k: usize, n: u32)
     ensures { counts.new ≡ set counts.old k n }
 {
@@ -56,44 +79,36 @@ pub fn put_count(counts: &mut [u32], k: usize, n: u32)
 }
 
 // What a function handed back, with no record written.
-fn uncounted(h: Handled) -> Done
-    ensures { result ≡ record { number = h.number; count = 0; monitor = h.monitor } }
+fn uncounted(monitor: &mut State, handled: Handled) -> Done
+    ensures { done_of result monitor.new ≡ record { number = handled.number; count = 0; monitor = handled.monitor } }
 {
-    let number = h.number;
-    let monitor = h.monitor;
+    *monitor = handled.monitor;
     Done {
-        number,
+        number: handled.number,
         count: 0,
-        monitor,
-    }
-}
-
-// What keeping handed back.
-fn counted(h: Kept) -> Done
-    ensures { result ≡ record { number = h.number; count = h.count; monitor = h.monitor } }
-{
-    let number = h.number;
-    let count = h.count;
-    let monitor = h.monitor;
-    Done {
-        number,
-        count,
-        monitor,
     }
 }
 
 // One operation: keeping into the reply buffer, restoring from the records, a batch, or a single call.
-pub fn operate(kind: u8, monitor: State, records: &[u8], replies: &mut [u8]) -> Done
-    ensures { DoneAs kind monitor records.now replies.old replies.new result }
+pub fn operate(
+    operation: Operation,
+    monitor: &mut State,
+    records: &[u8],
+    replies: &mut [u8],
+) -> Done
+    ensures { DoneAs (kind_of operation) monitor.old records.now replies.old replies.new (done_of result monitor.new) }
 {
-    if kind == BATCH {
-        return uncounted(handle_batch(monitor, records, replies));
+    match operation {
+        Operation::Call => uncounted(monitor, handle(*monitor, records, replies)),
+        Operation::Batch => uncounted(monitor, handle_batch(*monitor, records, replies)),
+        Operation::Keep => {
+            let kept = keep(*monitor, replies);
+            *monitor = kept.monitor;
+            Done {
+                number: kept.number,
+                count: kept.count,
+            }
+        }
+        Operation::Restore => uncounted(monitor, restore(*monitor, records)),
     }
-    if kind == KEEP {
-        return counted(keep(monitor, replies));
-    }
-    if kind == RESTORE {
-        return uncounted(restore(monitor, records));
-    }
-    uncounted(handle(monitor, records, replies))
 }

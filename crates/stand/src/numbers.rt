@@ -1,0 +1,26 @@
+// Refusals and answers as the one number of 64 bits that a host gets: the refusal's number stands in the upper half.
+ghost use Rattle.std.specs.Prelude.{◌≡◌};
+ghost use Rattle.stand.specs.Numbers.{refused, answered};
+
+use common::Refusal;
+
+// One past 32 bits: what a refusal's number is multiplied by.
+pub const SHIFT: u64 = 4294967296;
+
+// A refusal.
+pub fn refused(refusal: Refusal) -> u64
+    ensures { result ≡ refused refusal }
+{
+    u64::from(refusal.number()) * SHIFT
+}
+
+// The judge's answer: 1 for yes and 0 for no, or its refusal.
+pub fn answered(answer: Result<bool, Refusal>) -> u64
+    ensures { result ≡ answered answer }
+{
+    match answer {
+        Ok(true) => 1,
+        Ok(false) => 0,
+        Err(refusal) => refused(refusal),
+    }
+}
