@@ -23,7 +23,7 @@ use Rattle.stand.specs.Operations.{OperatedAs, by_call, by_batch, by_keep, by_re
 use Rattle.stand.specs.Calls.{calls_of, book_answers, Fit, all_fit, SessionAnswered, SessionRun}
 use Rattle.stand.specs.Done.{Done}
 use Rattle.stand.specs.declared.operations.Operation.{Operation}
-use Rattle.stand.specs.Kinds.{kind_of, named_by, operations_fit, Named, operation_of, parts_of, operations_of, all_known, number_in, buffers_of, DoneAs, book_results, OperationsFit, OperationsAnswered, OperationsRun}
+use Rattle.stand.specs.Kinds.{kind_of, named_by, operations_fit, Named, parts_of, operations_of, all_known, number_in, buffers_of, DoneAs, book_results, OperationsFit, OperationsAnswered, OperationsRun}
 use Rattle.stand.proofs.SizeLaws.{drop_here, fit_told, told_fit}
 
 -- WHETHER ALL ARE KNOWN

@@ -1,16 +1,15 @@
--- Sizes that add up to a length, taken off one by one.
+-- Sizes that add up to a length, and whether all fit.
 -- Assumes nothing.
-use mathlib.Core.Path.{◌≡◌, refl, sym, ap, ◌∙◌}
-use mathlib.Core.Bool.{Bool, true, false, not, ◌&&◌}
+use mathlib.Core.Path.{◌≡◌, ap}
+use mathlib.Core.Bool.{true}
 use mathlib.Core.List.{List, ◌∷◌}
-use Prim.Native.Nat.{ℕ, zero, suc, ◌+◌, ◌-◌, ◌≤◌, ◌<◌}
+use Prim.Native.Nat.{ℕ, ◌+◌, ◌≤◌, ◌<◌}
 use native.Mathlib.Numerals.{add-one}
-use native.Mathlib.Omega.{arith}
 use lib.Dec.{eqb}
 use lib.ListN.{length, drop, get_or, drop_of_length-le}
 use lib.Seq.{drop-cons}
-use borrow.Author.Tests.{eqb-true, eq-eqb, ne_eqb, not-true, not-false}
-use Rattle.common.proofs.Bools.{and_left, and_right, and_both, true_not_false}
+use borrow.Author.Tests.{eqb-true, eq-eqb}
+use Rattle.common.proofs.Bools.{and_left, and_right, and_both}
 use Rattle.stand.specs.Calls.{total, Fit, all_fit}
 
 -- the element at k, and those after it
@@ -22,22 +21,6 @@ total_here k l h = ap total (drop_here k l h)
 
 pub total-end : (k : ℕ) (l : List ℕ) → length l ≤ k → total (drop k l) ≡ 0
 total-end k l h = ap total (drop_of_length-le l h)
-
--- less is left than the next size
-pub too_short : (l : List ℕ) (k left n len : ℕ) → k < length l → total l + left ≡ len + total (drop k l) → n ≡ get_or l k 0 → left < n → false ≡ eqb (total l) len
-too_short l k left n len more inv e h = sym (ne_eqb (total l) len (λ same. omega (arith, same, inv, e, h, total_here k l more)))
-
--- the next size is taken off
-pub one_off : (l : List ℕ) (k left n len : ℕ) → k < length l → total l + left ≡ len + total (drop k l) → n ≡ get_or l k 0 → n ≤ left → total l + (left - n) ≡ len + total (drop (k + 1) l)
-one_off l k left n len more inv e h = omega (arith, inv, e, h, total_here k l more)
-
--- after the last size, nothing is left exactly when they add up
-pub all_off : (l : List ℕ) (k left len : ℕ) → length l ≤ k → total l + left ≡ len + total (drop k l) → eqb left 0 ≡ eqb (total l) len
-all_off l k left len end inv = taken (total l) left len (omega (arith, inv, total-end k l end))
-  where
-    taken : (t x n : ℕ) → t + x ≡ n → eqb x 0 ≡ eqb t n
-    taken t zero n h = sym (eq-eqb t n (omega (arith, h)))
-    taken t (suc x) n h = ne_eqb (suc x) 0 (λ e. omega (arith, e)) ∙ sym (ne_eqb t n (λ e. omega (arith, h, e)))
 
 -- WHETHER ALL FIT
 

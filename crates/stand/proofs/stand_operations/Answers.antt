@@ -2,7 +2,6 @@
 -- Assumes nothing.
 use Rattle.std.proofs.Common.{sym, ◌∙◌}
 use Rattle.stand.proofs.KindLaws.{operations_fit_told, operations_refused, operations_taken}
-use Rattle.stand.specs.Kinds.{OperationsFit}
 use Rattle.stand.proofs.stand_operations.Goals as goal
 
 pub returns-then-not-operations_fit : goal.returns-then-not-operations_fit

@@ -1,7 +1,7 @@
 -- `run` does every operation as the book does: `Progress` holds before each.
 -- Assumes nothing.
-use Rattle.std.proofs.Common.{arith, rules}
-use Rattle.stand.proofs.RunLaws.{begun, room_same, places_same, records-end, size-there, part_ends, place-there, worked, finished}
+use Rattle.std.proofs.Common.{arith}
+use Rattle.stand.proofs.RunLaws.{begun, records-end, size-there, part_ends, worked, finished}
 use Rattle.stand.proofs.sessions.Session.run.Goals as goal
 
 pub loop-k-init : goal.loop-k-init
