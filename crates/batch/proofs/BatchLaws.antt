@@ -15,9 +15,8 @@ use Rattle.book.specs.Session.{run_end}
 use Rattle.book.specs.Batches.{batch_fits, calls_in, batch_calls, buffers}
 use Rattle.book.proofs.Runs.{run-last}
 use Rattle.book.proofs.Batches.{buffers-append}
-use Rattle.monitor.specs.Handled.{Handles}
+use Rattle.monitor.specs.Handled.{Handles, Handled}
 use Rattle.monitor.specs.Sessions.{Session}
-use Rattle.monitor.specs.declared.calls.Handled.{Handled}
 use Rattle.batch.specs.Handled.{BatchHandles}
 use Rattle.batch.proofs.SizeLaws.{whole-records, replies_for_each}
 use Rattle.batch.proofs.PartLaws.{Filled, filled_none, part_lent, same_room, filled_more, filled-all}

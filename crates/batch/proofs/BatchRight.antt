@@ -10,7 +10,7 @@ use Rattle.book.specs.MachineSteps.{PositionMachine, machine_step}
 use Rattle.book.specs.Batches.{batch_fits, batch_calls, buffers, batch_by, run_batch}
 use Rattle.intake.specs.Represents.{Represents}
 use Rattle.monitor.proofs.SessionLaws.{session-answers, session-represents}
-use Rattle.monitor.specs.declared.calls.Handled.{Handled}
+use Rattle.monitor.specs.Handled.{Handled}
 use Rattle.batch.specs.Handled.{BatchedAs}
 
 pub batch-represents : (m m' : State) (s b : List ℕ) (a : Answer) (t : PositionMachine) → Represents m t → BatchedAs m s b a m'

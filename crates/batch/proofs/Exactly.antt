@@ -13,7 +13,7 @@ use Rattle.book.specs.Decide.{Answer}
 use Rattle.book.specs.Batches.{BatchOf, batch_fits, calls_in, buffers}
 use Rattle.book.proofs.Batches.{fits_exactly}
 use Rattle.monitor.specs.Sessions.{Session}
-use Rattle.monitor.specs.declared.calls.Handled.{Handled}
+use Rattle.monitor.specs.Handled.{Handled}
 use Rattle.batch.specs.Handled.{BatchedAs}
 
 module _ (m m' : State) (s b : List ℕ) (a : Answer) (h : BatchedAs m s b a m') where

@@ -5,7 +5,7 @@ use Rattle.follow.specs.declared.state.State.{State}
 use Rattle.book.specs.Decide.{Answer}
 use Rattle.book.specs.Batches.{batch_fits, batch_calls, buffers}
 use Rattle.monitor.specs.Sessions.{Session}
-use Rattle.monitor.specs.declared.calls.Handled.{Handled}
+use Rattle.monitor.specs.Handled.{Handled}
 
 -- "Replies and monitor must be those of n single calls in the same order.": single calls on the batch's records, each lent its own 50 bytes as they were lent,
 -- give these buffers, one after the other, and leave this monitor; the number is 0, whatever their answers

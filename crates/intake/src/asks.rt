@@ -2,8 +2,8 @@
 ghost use Rattle.std.specs.Prelude.{◌≡◌, take};
 ghost use Rattle.intake.specs.Asking.{request_as, Asks};
 
-use common::Refusal;
 use code::{Event, event_line};
+use common::Refusal;
 use frame::{RecordKind, framed, text};
 
 // What a record asks that is not refused: a line, to be declared; or an event, to be worked, with ids for names.

@@ -12,8 +12,7 @@ use Rattle.follow.specs.declared.state.Sheet.{Sheet}
 use Rattle.intake.specs.Names.{Event, Roles}
 use Rattle.intake.specs.Represents.{roles_in}
 use Rattle.intake.specs.Asking.{Asks, Means, seen-refusal, seen-event, Told, told-short, told_malformed, told_line, told-event}
-use Rattle.intake.specs.declared.asks.Kind.TheVariants.{Refusal, Line, Event as EventKind}
-use Rattle.intake.specs.declared.asks.Request.{Request}
+use Rattle.intake.specs.Requests.{Refusal, Line, Event as EventKind, Request}
 use Rattle.intake.proofs.KindLaws.{by_line}
 use Rattle.judge.specs.Judge.{an_event, refusal, verdict_by, text_answer, frame_answer, record_answer}
 use Rattle.judge.specs.Judging.{refusal_by, gives_event, gives_refusal, EventAsked}

@@ -24,7 +24,7 @@ use Rattle.book.specs.Rounds.{HostImage, LentBatch, room_fits, rewritten}
 use Rattle.book.proofs.Lasting.{Lasting, left_lasting}
 use Rattle.book.proofs.Accepted.{restored_lasting}
 use Rattle.book.proofs.RoundLaws.{room_told, by_room, by_image, by_batch, by_taking, image_fits, kept_with_room}
-use Rattle.monitor.specs.declared.calls.Handled.{Handled}
+use Rattle.monitor.specs.Handled.{Handled}
 use Rattle.batch.specs.Handled.{BatchHandles}
 use Rattle.batch.proofs.BatchRight.{batch-represents}
 use Rattle.common.specs.Refusals.{refusal_number, answer_number}

@@ -21,15 +21,14 @@ use Rattle.common.specs.declared.refusals.Refusal as Why
 use Rattle.std.specs.Prelude.{Result, Ok, Err}
 use Rattle.follow.specs.State.{refuse}
 use Rattle.follow.specs.declared.state.State.{State}
-use Rattle.follow.specs.declared.declare.Declared.{Declared}
+use Rattle.follow.specs.Declaring.{Declared}
 use Rattle.intake.specs.Names.{Name, Roles}
 use Rattle.intake.specs.Asked.{Asked, refused_by, asks_role, asks_rule, asks_event, is_free, check, asked_line, asked}
 use Rattle.intake.specs.Machine.{PositionMachine, with_role, names_of, asked_of}
 use Rattle.intake.specs.Represents.{name_at, table_of, roles_in, Represents}
 use Rattle.intake.specs.Asking.{Asks}
 use Rattle.intake.specs.Declaring.{DeclaredAs, line_asked, LineDeclared}
-use Rattle.intake.specs.declared.asks.Kind.TheVariants.{Refusal, Line as LineKind, Event as EventKind}
-use Rattle.intake.specs.declared.asks.Request.{Request}
+use Rattle.intake.specs.Requests.{Refusal, Line as LineKind, Event as EventKind, Request}
 use Rattle.intake.proofs.AskLaws.{text-small}
 use Rattle.intake.proofs.KindLaws.{by_refusal, by_line, by_event, asked-line}
 use Rattle.intake.proofs.Rows.{Numbered}

@@ -17,7 +17,7 @@ use Rattle.intake.specs.Represents.{Represents}
 use Rattle.intake.specs.Declaring.{line_asked}
 use Rattle.book.specs.Images.{digits}
 use Rattle.book.specs.Restoring.{take_asked, take_line, take_lines, line_records, other_records, read_mark, marks_read, restored}
-use Rattle.monitor.specs.declared.calls.Handled.{Handled}
+use Rattle.monitor.specs.Handled.{Handled}
 
 -- MARKS
 

@@ -13,8 +13,7 @@ use Rattle.book.specs.Operations.{Operation as Asked, call, answered, kept, repl
 use Rattle.book.specs.SessionBook.{fresh_session, book_operate}
 use Rattle.book.proofs.Runs.{answers-long}
 use Rattle.book.proofs.Whole.{calls_alone}
-use Rattle.monitor.specs.Handled.{Handles}
-use Rattle.monitor.specs.declared.calls.Handled.{Handled}
+use Rattle.monitor.specs.Handled.{Handles, Handled}
 use Rattle.batch.specs.Handled.{BatchHandles}
 use Rattle.snapshot.specs.Written.{Keeps}
 use Rattle.snapshot.specs.Reading.{Restores}

@@ -1,7 +1,6 @@
 -- `compiled` meets its contract: a law of RuleLaws for each way out.
 -- Assumes nothing.
-use Rattle.std.proofs.Common.{rules, refl, ◌≡◌, ◌∙◌, length}
-use Rattle.std.proofs.lemmas.Slice.{between_from_start}
+use Rattle.std.proofs.Common.{rules, refl, ◌≡◌, length}
 use Rattle.follow.proofs.RuleLaws.{compiled-short, compiled-right}
 use Rattle.follow.proofs.rules.compiled.Goals as goal
 

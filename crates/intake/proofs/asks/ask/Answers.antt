@@ -1,6 +1,6 @@
 -- `ask` meets its contract, by the frame.
 -- Assumes nothing.
-use Rattle.std.proofs.Common.{refl, sym, ap, ◌∙◌, ◌≡◌, Ok}
+use Rattle.std.proofs.Common.{refl, sym, ap, ◌∙◌, Ok}
 use Rattle.std.proofs.lemmas.Result.{err_from_is_err_and}
 use Rattle.common.specs.Refusals.{refusal_number}
 use Rattle.intake.specs.Asking.{refusal, request_as, event_as}
