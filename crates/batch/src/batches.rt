@@ -21,8 +21,7 @@ pub fn handle_batch(monitor: &mut State, records: &[u8], replies: &mut [u8]) -> 
     while at < records.len() {
         let end = at + RECORD_SIZE;
         let past = to + REPLY_SIZE;
-        let handled = handle(*monitor, &records[at..end], &mut replies[to..past]);
-        *monitor = handled.monitor;
+        let _ = handle(monitor, &records[at..end], &mut replies[to..past]);
         at = end;
         to = past;
     }

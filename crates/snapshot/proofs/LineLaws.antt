@@ -138,6 +138,13 @@ module _ (f : State) (d : Declared) where
     pub in_order_late : (e : Why.Refusal) → (f.sheet.rule_count ≡ 0 → ⊥) → (d.state.sheet.role_count ≡ f.sheet.role_count → ⊥) → LineInOrder f s (Err e) d.state
     in_order_late e n z = record { right = λ t rep k. late_refused t rep (λ q. n (sym (rules-count f t rep) ∙ q)) z e (what t) (h.right t rep k) }
 
+-- an answer that is another
+pub order-as : {f g : State} {s : List ℕ} {r q : Result Unit Why.Refusal} → r ≡ q → LineInOrder f s q g → LineInOrder f s r g
+order-as e h = rw e h
+
+pub taken-as : {f g : State} {s : List ℕ} {r q : Result Unit Why.Refusal} → r ≡ q → LineTaken f s q g → LineTaken f s r g
+taken-as e h = rw e h
+
 -- WHAT A RECORD ASKS
 
 module _ (f : State) (s : List ℕ) (a : Request) (asks : Asks (table_of f.sheet) s a) where

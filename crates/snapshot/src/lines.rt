@@ -5,7 +5,7 @@ use common::Refusal;
 use common::sizes::RECORD_SIZE;
 use follow::State;
 use frame::text;
-use intake::{Kind, ask, declare};
+use intake::{Request, ask, declare};
 
 // The text of a line in its place: a role line stands before every rule line.
 fn in_order(state: &mut State, text: &[u8]) -> Result<(), Refusal>
@@ -13,11 +13,7 @@ fn in_order(state: &mut State, text: &[u8]) -> Result<(), Refusal>
 {
     let rules = state.sheet.rule_count;
     let roles = state.sheet.role_count;
-    let declared = declare(*state, text);
-    *state = declared.state;
-    if declared.number != 0 {
-        return Err(Refusal::ImageTurnedAway);
-    }
+    declare(state, text)?;
     if rules == 0 || state.sheet.role_count == roles {
         Ok(())
     } else {
@@ -29,10 +25,9 @@ fn in_order(state: &mut State, text: &[u8]) -> Result<(), Refusal>
 fn take_line(state: &mut State, bytes: &[u8]) -> Result<(), Refusal>
     ensures { LineTaken state.old bytes.now result state.new }
 {
-    match ask(bytes, &state.sheet.names, state.sheet.role_count).kind {
-        Kind::Line => in_order(state, text(bytes)),
-        Kind::Refusal => Err(Refusal::ImageTurnedAway),
-        Kind::Event => Err(Refusal::ImageTurnedAway),
+    match ask(bytes, &state.sheet.names, state.sheet.role_count)? {
+        Request::Line => in_order(state, text(bytes)),
+        Request::Event(_) => Err(Refusal::ImageTurnedAway),
     }
 }
 
@@ -40,7 +35,7 @@ fn take_line(state: &mut State, bytes: &[u8]) -> Result<(), Refusal>
 pub fn take_lines(image: &[u8]) -> Result<(State, &[u8]), Refusal>
     ensures { LinesTaken image.now result }
 {
-    let mut state = follow::new();
+    let mut state = State::new();
     let mut rest = image;
     while let Some((record, after)) = rest.split_at_checked(RECORD_SIZE) {
         if record[0] != b'L' {

@@ -12,7 +12,7 @@ use Rattle.book.proofs.Runs.{run-answers, run-leaves}
 use Rattle.book.proofs.RoundRows.{used-within}
 use Rattle.book.proofs.Rounds.{SaysBook, rounds_are_feeding}
 use Rattle.round.specs.Running.{RoundRuns}
-use Rattle.round.specs.declared.rounds.RoundEnd.{RoundEnd}
+use Rattle.round.specs.Running.{RoundEnd}
 use Rattle.stand.specs.Rounds.{shift, returned_for, StandRuns, HostCalls, HostSession}
 
 -- THE NUMBER RETURNED

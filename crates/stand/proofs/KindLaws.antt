@@ -1,6 +1,6 @@
 -- Kinds of operations, and what a host that names none hands over.
 -- Assumes nothing.
-use Rattle.std.proofs.Common.{◌≡◌, Bool, true, false, not, ◌&&◌, ℕ, zero, suc, ◌+◌, ◌≤◌, ◌<◌, List, [], ◌∷◌, ◌++◌, map, length, take, drop, get_or, eqb, leb, refl, sym, ap, ◌∙◌, subst, arith, is_err}
+use Rattle.std.proofs.Common.{◌≡◌, Result, Ok, Err, Bool, true, false, not, ◌&&◌, ℕ, zero, suc, ◌+◌, ◌≤◌, ◌<◌, List, [], ◌∷◌, ◌++◌, map, length, take, drop, get_or, eqb, leb, refl, sym, ap, ◌∙◌, subst, arith, is_err}
 use lib.ListN.{drop_of_length-le}
 use borrow.Author.Tests.{eqb-true, eq-eqb, ne_eqb, lt-leb, not-true, not-false}
 use Rattle.common.proofs.Bools.{and_left, and_right, and_both, true_not_false}
@@ -13,14 +13,15 @@ use Rattle.book.specs.Operations.{Operation as Asked, call, answered, kept, repl
 use Rattle.book.specs.SessionBook.{fresh_session, book_operate}
 use Rattle.book.proofs.Runs.{answers-long}
 use Rattle.book.proofs.Whole.{calls_alone}
-use Rattle.monitor.specs.Handled.{Handles, Handled}
+use Rattle.common.specs.Refusals.{answer_number}
+use Rattle.common.specs.declared.refusals.Refusal.{Refusal}
+use Rattle.monitor.specs.Handled.{Handles, handled_as}
 use Rattle.batch.specs.Handled.{BatchHandles}
-use Rattle.snapshot.specs.Written.{Keeps}
+use Rattle.snapshot.specs.Written.{Keeps, count_written}
 use Rattle.snapshot.specs.Reading.{Restores}
-use Rattle.snapshot.specs.declared.keeping.Kept.{Kept}
 use Rattle.stand.specs.Operations.{OperatedAs, by_call, by_batch, by_keep, by_restore, Ran}
 use Rattle.stand.specs.Calls.{calls_of, book_answers, Fit, all_fit, SessionAnswered, SessionRun}
-use Rattle.stand.specs.Done.{Done}
+use Rattle.stand.specs.Done.{Done, done_of, uncounted}
 use Rattle.stand.specs.declared.operations.Operation.{Operation}
 use Rattle.stand.specs.Kinds.{kind_of, named_by, operations_fit, Named, parts_of, operations_of, all_known, number_in, buffers_of, DoneAs, book_results, OperationsFit, OperationsAnswered, OperationsRun}
 use Rattle.stand.proofs.SizeLaws.{drop_here, fit_told, told_fit}
@@ -88,21 +89,34 @@ named_done k o m s lent left d n h =
       buffer = h.buffer;
     }
 
+-- an answer without records has its number, and counts none
+uncounted-number : (r : Result (Unit {0}) Refusal) → answer_number (uncounted r) ≡ answer_number r
+uncounted-number (Ok u) = refl
+uncounted-number (Err e) = refl
+
+uncounted-none : (r : Result (Unit {0}) Refusal) → count_written (uncounted r) ≡ 0
+uncounted-none (Ok u) = refl
+uncounted-none (Err e) = refl
+
 module _ (m : State) (s lent left : List ℕ) where
-  pub by_batch_kind : (r : Handled) (d : Done) → BatchHandles m s lent left r → d ≡ record { number = r.number; count = 0; monitor = r.monitor } → DoneAs 1 m s lent left d
-  by_batch_kind r d h e =
-      rw e (record { result = answered (record { number = r.number; buffer = left }); operated = by_batch h; number = refl; count = refl; buffer = refl })
+  module _ (r : Result (Unit {0}) Refusal) (a : Result ℕ Refusal) (after : State) (e : a ≡ uncounted r) where
+    number-is : answer_number a ≡ answer_number r
+    number-is = ap answer_number e ∙ uncounted-number r
 
-  pub by_keep_kind : (r : Kept) → Keeps m lent left r → DoneAs 2 m s lent left (record { number = r.number; count = r.count; monitor = r.monitor })
-  by_keep_kind r h = record { result = kept r.number r.count left; operated = by_keep h; number = refl; count = refl; buffer = refl }
+    none-counted : count_written a ≡ 0
+    none-counted = ap count_written e ∙ uncounted-none r
 
-  pub by_restore_kind : (r : Handled) (d : Done) → left ≡ lent → Restores m s r → d ≡ record { number = r.number; count = 0; monitor = r.monitor } → DoneAs 3 m s lent left d
-  by_restore_kind r d q h e =
-      rw e (record { result = replaced r.number; operated = by_restore h; number = refl; count = refl; buffer = q })
+    pub by_batch_kind : BatchHandles m s lent left (handled_as r after) → DoneAs 1 m s lent left (done_of a after)
+    by_batch_kind h = record { result = answered (record { number = answer_number r; buffer = left }); operated = by_batch h; number = number-is; count = none-counted; buffer = refl }
 
-  pub by_call_kind : (r : Handled) (d : Done) → Handles m s lent left r → d ≡ record { number = r.number; count = 0; monitor = r.monitor } → DoneAs 0 m s lent left d
-  by_call_kind r d h e =
-      rw e (record { result = answered (record { number = r.number; buffer = left }); operated = by_call h; number = refl; count = refl; buffer = refl })
+    pub by_restore_kind : left ≡ lent → Restores m s (handled_as r after) → DoneAs 3 m s lent left (done_of a after)
+    by_restore_kind q h = record { result = replaced (answer_number r); operated = by_restore h; number = number-is; count = none-counted; buffer = q }
+
+    pub by_call_kind : Handles m s lent left (handled_as r after) → DoneAs 0 m s lent left (done_of a after)
+    by_call_kind h = record { result = answered (record { number = answer_number r; buffer = left }); operated = by_call h; number = number-is; count = none-counted; buffer = refl }
+
+  pub by_keep_kind : (r : Result ℕ Refusal) (after : State) → Keeps m lent left (record { number = answer_number r; count = count_written r; monitor = after }) → DoneAs 2 m s lent left (done_of r after)
+  by_keep_kind r after h = record { result = kept (answer_number r) (count_written r) left; operated = by_keep h; number = refl; count = refl; buffer = refl }
 
 -- NO KINDS: single calls
 

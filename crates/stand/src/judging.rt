@@ -10,8 +10,7 @@ fn take_in(monitor: &mut State, bytes: &[u8])
     ensures { RecordLeaves monitor.old bytes.now monitor.new }
 {
     let mut reply = [0u8; REPLY_SIZE];
-    let handled = handle(*monitor, bytes, &mut reply);
-    *monitor = handled.monitor;
+    let _ = handle(monitor, bytes, &mut reply);
 }
 
 // The monitor that a sheet leaves.

@@ -19,7 +19,7 @@ use common::Refusal;
 use common::sizes::RECORD_SIZE;
 use judge::SheetView;
 use judging::after;
-use numbers::{SHIFT, answered, refused};
+use numbers::{answered, refused};
 use round::run_round;
 use sessions::Session;
 
@@ -29,8 +29,10 @@ use sessions::Session;
 pub fn stand_run(image: &mut [u8], used: u32, records: &[u8], replies: &mut [u8]) -> u64
     ensures { StandRuns image.old used records.now replies.old image.new replies.new result }
 {
-    let end = run_round(image, used, records, replies);
-    end.number as u64 * SHIFT + end.used as u64
+    match run_round(image, used, records, replies) {
+        Ok(left) => u64::from(left),
+        Err(refusal) => refused(refusal) + u64::from(used),
+    }
 }
 
 // A whole session from a fresh monitor. Call k has the next lengths[k] bytes of `records` as its record and the next sizes[k] bytes of `replies` as its

@@ -1,12 +1,13 @@
 // Operations by their kinds, as a host names them.
 ghost use Rattle.std.specs.Prelude.{◌≡◌, get_or, set};
-ghost use Rattle.stand.specs.Done.{done_of};
+ghost use Rattle.snapshot.specs.Written.{count_written};
+ghost use Rattle.stand.specs.Done.{done_of, uncounted};
 ghost use Rattle.stand.specs.Kinds.{kind_of, named_by, all_known, Named, DoneAs};
 
 use batch::handle_batch;
 use common::Refusal;
 use follow::State;
-use monitor::{Handled, handle};
+use monitor::handle;
 use snapshot::{keep, restore};
 
 // What a host does with a monitor.
@@ -33,13 +34,6 @@ impl TryFrom<u8> for Operation {
             _ => Err(Refusal::BatchLength),
         }
     }
-}
-
-// The number of an operation, and how many records it wrote, which keeping alone does.
-#[derive(Clone, Copy, Debug, PartialEq, Eq)]
-pub struct Done {
-    pub number: u8,
-    pub count: u32,
 }
 
 // Whether every kind is one of the four.
@@ -78,37 +72,37 @@ pub fn put_count(counts: &mut [u32], k: usize, n: u32)
     }
 }
 
-// What a function handed back, with no record written.
-fn uncounted(monitor: &mut State, handled: Handled) -> Done
-    ensures { done_of result monitor.new ≡ record { number = handled.number; count = 0; monitor = handled.monitor } }
+// How many records an operation wrote, by its answer; a refused one wrote none.
+pub fn written(answer: Result<u32, Refusal>) -> u32
+    ensures { result ≡ count_written answer }
 {
-    *monitor = handled.monitor;
-    Done {
-        number: handled.number,
-        count: 0,
+    answer.unwrap_or(0)
+}
+
+// The answer of an operation that writes no record.
+fn uncounted(answer: Result<(), Refusal>) -> Result<u32, Refusal>
+    ensures { result ≡ uncounted answer }
+{
+    match answer {
+        Ok(()) => Ok(0),
+        Err(refusal) => Err(refusal),
     }
 }
 
-// One operation: keeping into the reply buffer, restoring from the records, a batch, or a single call.
+// One operation: keeping into the reply buffer, restoring from the records, a batch, or a single call. Answers how many records it wrote, which keeping
+// alone does.
 pub fn operate(
     operation: Operation,
     monitor: &mut State,
     records: &[u8],
     replies: &mut [u8],
-) -> Done
+) -> Result<u32, Refusal>
     ensures { DoneAs (kind_of operation) monitor.old records.now replies.old replies.new (done_of result monitor.new) }
 {
     match operation {
-        Operation::Call => uncounted(monitor, handle(*monitor, records, replies)),
-        Operation::Batch => uncounted(monitor, handle_batch(*monitor, records, replies)),
-        Operation::Keep => {
-            let kept = keep(*monitor, replies);
-            *monitor = kept.monitor;
-            Done {
-                number: kept.number,
-                count: kept.count,
-            }
-        }
-        Operation::Restore => uncounted(monitor, restore(*monitor, records)),
+        Operation::Call => uncounted(handle(monitor, records, replies)),
+        Operation::Batch => uncounted(handle_batch(monitor, records, replies)),
+        Operation::Keep => keep(monitor, replies),
+        Operation::Restore => uncounted(restore(monitor, records)),
     }
 }

@@ -3,8 +3,9 @@ ghost use Rattle.std.specs.Prelude.{◌≡◌, length};
 ghost use Rattle.stand.specs.Calls.{all_fit, Fit};
 ghost use Rattle.stand.specs.Kinds.{operations_fit, OperationsAnswered};
 
-use crate::operations::{all_known, operate, operation_at, put_count};
+use crate::operations::{all_known, operate, operation_at, put_count, written};
 use crate::sizes::fits;
+use common::answer_number;
 
 // What a host hands over to be read: a kind for each operation, and past the last kind single calls; the records one after the other; and how many bytes of the records
 // and of the replies each operation has.
@@ -57,8 +58,8 @@ impl<'a> Session<'a> {
                 &self.records[at..end],
                 &mut replies[to..past],
             );
-            numbers[k] = done.number;
-            put_count(counts, k, done.count);
+            numbers[k] = answer_number(done);
+            put_count(counts, k, written(done));
             at = end;
             to = past;
         }

@@ -25,7 +25,7 @@ slice_bounds-handle-end-in-loop-at c = omega (arith, room_there _ _ _ _ _ _ _ c.
 
 pub loop-at-preserved : goal.loop-at-preserved
 loop-at-preserved c =
-    (c.loop-at.invariant.0, called _ _ _ _ _ _ _ c.loop-at.invariant.1 c.loop-at-test.true _ _ c.handle-handled.ensures c.handle-handled.auto.reply)
+    (c.loop-at.invariant.0, called _ _ _ _ _ _ _ c.loop-at.invariant.1 c.loop-at-test.true _ _ c.handle.ensures c.handle.auto.reply)
 
 pub shape_of-replies : goal.shape_of-replies
 shape_of-replies c = room_same _ _ _ _ _ _ _ c.loop-at.invariant.1

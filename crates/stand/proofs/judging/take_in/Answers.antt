@@ -3,4 +3,4 @@
 use Rattle.stand.proofs.judging.take_in.Goals as goal
 
 pub returns : goal.returns
-returns c = record { right = λ t rep. (c.handle-handled.ensures.right t rep).monitor }
+returns c = record { right = λ t rep. (c.handle.ensures.right t rep).monitor }

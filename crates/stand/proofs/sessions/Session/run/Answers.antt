@@ -18,7 +18,8 @@ overflow_add-past c = record { fits = omega (arith, part_ends _ _ _ _ _ _ _ _ _ 
 
 pub loop-k-preserved : goal.loop-k-preserved
 loop-k-preserved c =
-    worked _ _ _ _ _ _ _ _ _ _ _ _ _ _ c.loop-k.invariant c.loop-k-test.true _ _ _ _ c.operation_at-operation.ensures c.put_count.ensures c.operate-done.ensures c.operate-done.auto.replies
+    rw c.answer_number.ensures
+    (worked _ _ _ _ _ _ _ _ _ _ _ _ _ _ c.loop-k.invariant c.loop-k-test.true _ _ _ _ c.operation_at-operation.ensures (rw c.written.ensures at c.put_count.ensures) c.operate-done.ensures c.operate-done.auto.replies)
 
 pub returns : goal.returns
 returns c = finished _ _ _ _ _ _ _ _ _ _ _ _ _ _ c.loop-k.invariant c.loop-k-test.false
