@@ -1,13 +1,15 @@
 -- `event` meets its contract: a law of RecordLaws for each kind that is asked.
 -- Assumes nothing.
+use Rattle.std.proofs.Common.{refl, Err}
+use Rattle.intake.specs.Asking.{request_as}
 use Rattle.judge.proofs.RecordLaws.{event-refused, event-line, event-given}
 use Rattle.judge.proofs.view.SheetView.event.Goals as goal
 
-pub returns-in-Refusal : goal.returns-in-Refusal
-returns-in-Refusal c = rw c.refusal_by.ensures (event-refused _ _ _ c.ask-asked.ensures c.in-Refusal.is)
+pub returns-in-Err : goal.returns-in-Err
+returns-in-Err c = rw c.refused_by.ensures (event-refused _ _ (request_as (Err c.in-Err.refusal)) c.in-Err.ensures refl)
 
-pub returns-in-Line : goal.returns-in-Line
-returns-in-Line c = event-line _ _ _ c.ask-asked.ensures c.in-Line.is
+pub returns-in-Ok-Line : goal.returns-in-Ok-Line
+returns-in-Ok-Line c = event-line _ _ _ (rw c.in-Ok-Line.field-0-is at c.in-Ok-Line.ensures) refl
 
-pub returns-in-Event : goal.returns-in-Event
-returns-in-Event c = event-given _ _ _ c.ask-asked.ensures c.in-Event.is
+pub returns-in-Ok-Event : goal.returns-in-Ok-Event
+returns-in-Ok-Event c = event-given _ _ _ (rw c.in-Ok-Event.field-0-is at c.in-Ok-Event.ensures) refl
