@@ -3,5 +3,8 @@
 use Rattle.stand.proofs.HostSessions.{one_number}
 use Rattle.stand.proofs.stand_run.Goals as goal
 
-pub returns : goal.returns
-returns c = one_number _ _ _ _ _ _ _ c.run_round-end.ensures
+pub returns-in-Ok : goal.returns-in-Ok
+returns-in-Ok c = rw c.from.ensures (one_number _ _ _ _ _ _ _ c.in-Ok.ensures)
+
+pub returns-in-Err : goal.returns-in-Err
+returns-in-Err c = rw (c.refused.ensures, c.from-in-Err.ensures) (one_number _ _ _ _ _ _ _ c.in-Err.ensures)
