@@ -1,7 +1,6 @@
 pub mod Film
 pub mod RepresentsFilm
 pub mod Answers
-pub mod Refusals
 pub mod Viewed
 pub mod Views
 pub mod Lines

@@ -1,48 +1,23 @@
 // What becomes of a record: a refusal, which changes nothing, or a line that is declared, or an act, which is always committed.
-ghost use Rattle.std.specs.Prelude.{◌≡◌};
-ghost use Rattle.viewer.specs.Refusals.{refusal_of};
 ghost use Rattle.viewer.specs.Views.{Takes};
 
 use crate::view::Taken;
 use common::Refusal;
-use follow::{State, commit};
+use follow::State;
 use frame::text;
-use intake::{Kind, ask, declare};
-
-// The refusal of a number of the table.
-fn refusal(number: u8) -> Refusal
-    ensures { result ≡ refusal_of number }
-{
-    match number {
-        2 => Refusal::RecordLength,
-        3 => Refusal::Malformed,
-        4 => Refusal::NotInLanguage,
-        5 => Refusal::NameTaken,
-        6 => Refusal::NotDeclared,
-        7 => Refusal::TooManyPatterns,
-        _ => Refusal::Full,
-    }
-}
+use intake::{Request, ask, declare};
 
 // What becomes of a record, in the order of the table of refusals.
 pub fn take(state: &mut State, bytes: &[u8]) -> Result<Taken, Refusal>
     ensures { Takes state.old bytes.now state.new result }
 {
-    let asked = ask(bytes, &state.sheet.names, state.sheet.role_count);
-    match asked.kind {
-        Kind::Refusal => Err(refusal(asked.number)),
-        Kind::Line => {
-            let line = declare(*state, text(bytes));
-            let taken = line.number == 0;
-            if taken {
-                *state = line.state;
-                return Ok(Taken::Declared(line.name));
-            }
-            Err(refusal(line.number))
+    match ask(bytes, &state.sheet.names, state.sheet.role_count)? {
+        Request::Line => {
+            let name = declare(state, text(bytes))?;
+            Ok(Taken::Declared(name))
         }
-        Kind::Event => {
-            let after = commit(*state, asked.event);
-            *state = after;
+        Request::Event(event) => {
+            state.commit(event);
             Ok(Taken::Committed)
         }
     }

@@ -1,16 +1,22 @@
+-- `take` meets its contract: a law of RecordLaws for each thing that becomes of a record.
+-- Assumes nothing.
+use Rattle.std.proofs.Common.{◌≡◌, refl, rules, Err}
 use Rattle.viewer.proofs.RecordLaws.{take_refusal, take_declared, take_undeclared, take_event}
 use Rattle.viewer.proofs.taking.take.Goals as goal
 
-pub returns-in-Refusal : goal.returns-in-Refusal
-returns-in-Refusal c = rw c.refusal.ensures (take_refusal _ _ c.ask-asked.result c.ask-asked.ensures c.in-Refusal.is)
+pub returns-in_err-ask : goal.returns-in_err-ask
+returns-in_err-ask c =
+    let e : c.from_residual.result ≡ Err c.in_err-ask.field-0.0 = search rules in
+    rw e (take_refusal _ _ _ (rw c.in_err-ask.was at c.ask.ensures) _ refl refl)
 
-pub returns-then-taken : goal.returns-then-taken
-returns-then-taken c =
-    take_declared _ _ c.ask-asked.result c.ask-asked.ensures c.in-Line.is c.declare-line.result (rw c.text.ensures at c.declare-line.ensures) c.if-taken.true
+pub returns-in_err-name-in-Line : goal.returns-in_err-name-in-Line
+returns-in_err-name-in-Line c =
+    let e : c.from_residual-in_err-name-in-Line.result ≡ Err c.in_err-name-in-Line.field-0.0 = search rules in
+    rw e (take_undeclared _ _ (rw (c.in_ok-ask.was, c.in-Line.is) at c.ask.ensures) _ _ (rw (c.text.ensures, c.in_err-name-in-Line.was) at c.declare.ensures))
 
-pub returns-else-taken : goal.returns-else-taken
-returns-else-taken c =
-    rw c.refusal-in-Line.ensures (take_undeclared _ _ c.ask-asked.result c.ask-asked.ensures c.in-Line.is c.declare-line.result (rw c.text.ensures at c.declare-line.ensures) c.if-taken.false)
+pub returns-in_ok-name-in-Line : goal.returns-in_ok-name-in-Line
+returns-in_ok-name-in-Line c =
+    take_declared _ _ (rw (c.in_ok-ask.was, c.in-Line.is) at c.ask.ensures) _ _ (rw (c.text.ensures, c.in_ok-name-in-Line.was) at c.declare.ensures)
 
 pub returns-in-Event : goal.returns-in-Event
-returns-in-Event c = take_event _ _ c.ask-asked.result c.ask-asked.ensures c.in-Event.is _ c.commit-after.ensures
+returns-in-Event c = take_event _ _ _ (rw (c.in_ok-ask.was, c.in-Event.is) at c.ask.ensures) refl _ c.commit.ensures
