@@ -10,12 +10,13 @@ pub mod sheet;
 pub mod shown;
 pub mod steps;
 
+use follow::State;
 use full::{filled, thirty};
 use std::io;
 use steps::{role_declared, rule_declared};
 
 fn main(rt: HostRuntime) -> io::Result<()> {
-    let mut f = follow::new();
+    let mut f = State::new();
     sheet::declared(&rt, &mut f)?;
     sheet::followed(&rt, &mut f)?;
     sheet::joined(&rt, &mut f)?;

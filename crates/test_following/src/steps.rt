@@ -1,7 +1,7 @@
 // One step each: a line or an event made of its text, given to the follower, and told.
-use code::Event;
 use crate::shown::name;
-use follow::{Declared, State, commit, declare_role, declare_rule, matches};
+use common::{Refusal, answer_number};
+use follow::{State, matches};
 use std::io;
 
 // The names of the roles held.
@@ -30,54 +30,40 @@ pub fn told(rt: &impl Print, f: &State, text: &[u8], number: u8) -> io::Result<(
     rt.write_all(b"\n")
 }
 
-// What declaring leaves, and its number.
-fn left(f: &mut State, declared: Declared) -> u8 {
-    *f = declared.state;
-    declared.number
-}
-
-// A role line, declared: its number.
-pub fn role_declared(f: &mut State, text: &[u8]) -> u8 {
+// A role line, declared: its name, or its refusal.
+pub fn role_declared(f: &mut State, text: &[u8]) -> Result<u64, Refusal> {
     let line = code::role_line(text, roles_held(f));
-    left(f, declare_role(*f, line))
+    f.declare_role(line)
 }
 
-// A rule line, declared: its number.
-pub fn rule_declared(f: &mut State, text: &[u8]) -> u8 {
+// A rule line, declared: its name, or its refusal.
+pub fn rule_declared(f: &mut State, text: &[u8]) -> Result<u64, Refusal> {
     let line = code::rule_line(text, roles_held(f));
-    left(f, declare_rule(*f, line))
+    f.declare_rule(line)
 }
 
-// An event as read, committed; refused with 6 where it names a role that is not held.
-fn event_committed(f: &mut State, text: &[u8]) -> u8 {
-    let line = code::event_line(text, roles_held(f));
-    if line.unknown {
-        return 6;
-    }
-    let roles = line.roles;
-    let event = Event {
-        len: line.len,
-        roles,
-    };
-    *f = commit(*f, event);
-    0
+// An event as read, committed; refused where it names a role that is not held.
+fn event_committed(f: &mut State, text: &[u8]) -> Result<(), Refusal> {
+    let event = code::event_line(text, roles_held(f))?;
+    f.commit(event);
+    Ok(())
 }
 
 // A step that is a role line.
 pub fn role(rt: &impl Print, f: &mut State, text: &[u8]) -> io::Result<()> {
-    let number = role_declared(f, text);
+    let number = answer_number(role_declared(f, text));
     told(rt, f, text, number)
 }
 
 // A step that is a rule line.
 pub fn rule(rt: &impl Print, f: &mut State, text: &[u8]) -> io::Result<()> {
-    let number = rule_declared(f, text);
+    let number = answer_number(rule_declared(f, text));
     told(rt, f, text, number)
 }
 
 // A step that is an event.
 pub fn event(rt: &impl Print, f: &mut State, text: &[u8]) -> io::Result<()> {
-    let number = event_committed(f, text);
+    let number = answer_number(event_committed(f, text));
     rt.write_all(b"event ")?;
     told(rt, f, text, number)
 }

@@ -1,6 +1,6 @@
 // Lists of events, committed.
 use crate::events::next;
-use follow::{State, commit, matches};
+use follow::{State, matches};
 
 // Whether rule 0's past matches now.
 fn first_matches(f: &State) -> bool {
@@ -8,33 +8,32 @@ fn first_matches(f: &State) -> bool {
 }
 
 // Into out[k]: whether rule 0's past matches after k events of the list.
-pub fn marked(f: State, events: &[u8], out: &mut [u8]) {
-    let mut now = f;
+pub fn marked(state: &mut State, events: &[u8], out: &mut [u8]) {
     let mut left = events;
     for mark in out {
-        *mark = u8::from(first_matches(&now));
+        *mark = u8::from(first_matches(state));
         let Some((event, rest)) = next(left) else {
             return;
         };
-        now = commit(now, event);
+        state.commit(event);
         left = rest;
     }
 }
 
-// The state after the list of events.
-fn committed_once(f: State, events: &[u8]) -> State {
-    let mut now = f;
+// The list of events, committed in order.
+fn committed_once(state: &mut State, events: &[u8]) {
     let mut left = events;
     while let Some((event, rest)) = next(left) {
-        now = commit(now, event);
+        state.commit(event);
         left = rest;
     }
-    now
 }
 
-// The state after the list of events, `rounds` times over.
-pub fn committed(f: State, events: &[u8], rounds: u32) -> State {
-    (0..rounds).fold(f, |now, _| committed_once(now, events))
+// The list of events, committed `rounds` times over.
+pub fn committed(state: &mut State, events: &[u8], rounds: u32) {
+    for _ in 0..rounds {
+        committed_once(state, events);
+    }
 }
 
 // A number made from all rules' positions, in their order.
