@@ -1,19 +1,22 @@
 // A record through the readers, in the order of the refusals.
-//
-// The readers promise at most 126 bytes of code and at most four roles. Where a function takes them as a struct, it tests the length once more,
-// so that it is safe for any struct.
-use crate::shown::{code_shown, name_shown, roles_shown};
-use code::{Encoded, EventLine, patterns};
-use frame::{Frame, framed, text};
-use grammar::Kind;
+use crate::shown::{code_shown, name_shown, roles_shown, words_shown};
+use code::{Encoded, event_line, patterns, role_line, rule_line};
+use common::Refusal;
+use frame::{RecordKind, framed, text};
+use grammar::{LineKind, line_kind};
 use std::io;
+
+// A refusal that nothing stands before.
+fn refused(rt: &impl Print, refusal: Refusal) -> io::Result<()> {
+    print!(rt; "refused {}", refusal.number())
+}
 
 // A role line: its name, and whether its parent is held.
 fn role(rt: &impl Print, t: &[u8], held: &[u64]) -> io::Result<()> {
-    let r = code::role_line(t, held);
+    let r = role_line(t, held);
     rt.write_all(b"role ")?;
     name_shown(rt, r.name)?;
-    if r.parent < held.len() {
+    if r.parent.is_some() {
         return rt.write_all(b", parent held");
     }
     rt.write_all(b", parent not held, refused 6")
@@ -21,7 +24,7 @@ fn role(rt: &impl Print, t: &[u8], held: &[u64]) -> io::Result<()> {
 
 // How many patterns a past has, by the code that begins with it.
 fn patterns_shown(rt: &impl Print, body: &Encoded) -> io::Result<()> {
-    match body.code.get(..body.len) {
+    match body.bytes() {
         Some(code) => print!(rt; "{}", patterns(code)),
         None => Ok(()),
     }
@@ -29,7 +32,7 @@ fn patterns_shown(rt: &impl Print, body: &Encoded) -> io::Result<()> {
 
 // The code of a rule.
 fn body_shown(rt: &impl Print, body: &Encoded, held: &[u64]) -> io::Result<()> {
-    match body.code.get(..body.len) {
+    match body.bytes() {
         Some(code) => code_shown(rt, code, held),
         None => Ok(()),
     }
@@ -49,7 +52,7 @@ fn verdict(rt: &impl Print, unknown: bool, fits: bool) -> io::Result<()> {
 
 // A rule line: its name, the number of patterns in its past, whether its roles are held, and its code.
 fn rule(rt: &impl Print, t: &[u8], held: &[u64]) -> io::Result<()> {
-    let r = code::rule_line(t, held);
+    let r = rule_line(t, held);
     rt.write_all(b"rule ")?;
     name_shown(rt, r.name)?;
     rt.write_all(b", patterns ")?;
@@ -64,46 +67,35 @@ fn rule(rt: &impl Print, t: &[u8], held: &[u64]) -> io::Result<()> {
     body_shown(rt, &r.body, held)
 }
 
-// The roles of an event, by id and name.
-fn event_shown(rt: &impl Print, e: &EventLine, held: &[u64]) -> io::Result<()> {
-    match e.roles.get(..e.len) {
-        Some(roles) => roles_shown(rt, roles, held),
-        None => Ok(()),
-    }
-}
-
-// An event: whether its roles are held, and their ids.
-fn event(rt: &impl Print, e: &EventLine, held: &[u64]) -> io::Result<()> {
-    rt.write_all(b"event")?;
-    verdict(rt, e.unknown, true)?;
-    rt.write_all(b", ids")?;
-    event_shown(rt, e, held)
-}
-
 // A line's text.
 fn line(rt: &impl Print, t: &[u8], held: &[u64]) -> io::Result<()> {
-    match grammar::line_kind(t) {
-        Kind::Role => role(rt, t, held),
-        Kind::Rule => rule(rt, t, held),
-        Kind::Neither => rt.write_all(b"refused 4"),
+    match line_kind(t) {
+        Some(LineKind::Role) => role(rt, t, held),
+        Some(LineKind::Rule) => rule(rt, t, held),
+        None => refused(rt, Refusal::NotInLanguage),
     }
 }
 
-// An event's text.
-fn event_text(rt: &impl Print, t: &[u8], held: &[u64]) -> io::Result<()> {
-    let e = code::event_line(t, held);
-    if e.fits {
-        return event(rt, &e, held);
+// An event's text: whether its roles are held, and their ids. The ids of a text that is refused with 6 are those of its words.
+fn event(rt: &impl Print, t: &[u8], held: &[u64]) -> io::Result<()> {
+    match event_line(t, held) {
+        Ok(event) => {
+            rt.write_all(b"event, roles held, ids")?;
+            roles_shown(rt, event.roles(), held)
+        }
+        Err(Refusal::NotDeclared) => {
+            rt.write_all(b"event, role not held, refused 6, ids")?;
+            words_shown(rt, t, held)
+        }
+        Err(refusal) => refused(rt, refusal),
     }
-    rt.write_all(b"refused 4")
 }
 
 // What became of any bytes.
 pub fn judged(rt: &impl Print, bytes: &[u8], held: &[u64]) -> io::Result<()> {
     match framed(bytes) {
-        Frame::Line => line(rt, text(bytes), held),
-        Frame::Event => event_text(rt, text(bytes), held),
-        Frame::WrongLength => rt.write_all(b"refused 2"),
-        Frame::Malformed => rt.write_all(b"refused 3"),
+        Ok(RecordKind::Line) => line(rt, text(bytes), held),
+        Ok(RecordKind::Event) => event(rt, text(bytes), held),
+        Err(refusal) => refused(rt, refusal),
     }
 }

@@ -41,11 +41,34 @@ pub fn code_shown(rt: &impl Print, code: &[u8], held: &[u64]) -> io::Result<()> 
     Ok(())
 }
 
+// An id with its name.
+fn id_shown(rt: &impl Print, id: u8, held: &[u64]) -> io::Result<()> {
+    print!(rt; " {id} ")?;
+    role_shown(rt, id, held)
+}
+
 // Ids, each with its name.
 pub fn roles_shown(rt: &impl Print, roles: &[u8], held: &[u64]) -> io::Result<()> {
     for id in roles {
-        print!(rt; " {id} ")?;
-        role_shown(rt, *id, held)?;
+        id_shown(rt, *id, held)?;
+    }
+    Ok(())
+}
+
+// The id of a word: the place of its name among those held, and 127 where it is not held.
+fn id_of(word: &[u8], held: &[u64]) -> u8 {
+    match names::find(held, names::pack(word)) {
+        Some(place) => place.min(127) as u8,
+        None => 127,
+    }
+}
+
+// The ids of the words of a text, each with its name. Spaces stand between words, one or more.
+pub fn words_shown(rt: &impl Print, text: &[u8], held: &[u64]) -> io::Result<()> {
+    for word in text.split(|b| *b == b' ') {
+        if !word.is_empty() {
+            id_shown(rt, id_of(word, held), held)?;
+        }
     }
     Ok(())
 }

@@ -1,6 +1,7 @@
 // A session's replies against the stored ones.
 ghost use Rattle.std.specs.Prelude.{◌≡◌, IfNone};
 
+use common::answer_number;
 use follow::State;
 use input::{next, read_full};
 use monitor::handle;
@@ -61,9 +62,8 @@ fn found(number: u8, reply: &[u8; 50], stored: &[u8; 50]) -> Option<Finding>
 // Hands a record to the monitor and compares the reply.
 fn answered(monitor: &mut State, record: &[u8], stored: &[u8; 50]) -> Option<Finding> {
     let mut reply = [0u8; 50];
-    let handled = handle(*monitor, record, &mut reply);
-    *monitor = handled.monitor;
-    found(handled.number, &reply, stored)
+    let number = answer_number(handle(monitor, record, &mut reply));
+    found(number, &reply, stored)
 }
 
 // Reads the next record and the next stored reply, and compares.
