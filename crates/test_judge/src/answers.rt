@@ -1,28 +1,26 @@
 // The judge's answers in four bytes.
 ghost use Rattle.std.specs.Prelude.{◌≡◌, true};
+ghost use Rattle.common.specs.Refusals.{refusal_number};
 ghost use Rattle.test_judge.specs.Answers.{refusal_shown, shown_as};
 
-use judge::Verdict;
+use common::Refusal;
 
 // `R`, a space and the number in two digits.
-fn refusal(number: u8) -> [u8; 4]
-    ensures { result ≡ refusal_shown number }
+fn refused(refusal: Refusal) -> [u8; 4]
+    ensures { result ≡ refusal_shown (refusal_number refusal) }
 {
+    let number = refusal.number();
     [b'R', b' ', b'0' + number / 10, b'0' + number % 10]
 }
 
 // An answer as it is printed and stored.
-pub fn shown(verdict: Verdict) -> [u8; 4]
-    ensures { result ≡ shown_as verdict }
+pub fn shown(answer: Result<bool, Refusal>) -> [u8; 4]
+    ensures { result ≡ shown_as answer }
 {
-    match verdict {
-        Verdict::Yes => *b"yes ",
-        Verdict::No => *b"no  ",
-        Verdict::NoRule => refusal(9),
-        Verdict::NotWhole => refusal(10),
-        Verdict::Malformed => refusal(3),
-        Verdict::NotInLanguage => refusal(4),
-        Verdict::Unknown => refusal(6),
+    match answer {
+        Ok(true) => *b"yes ",
+        Ok(false) => *b"no  ",
+        Err(refusal) => refused(refusal),
     }
 }
 
