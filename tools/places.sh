@@ -40,7 +40,7 @@ count '6c a place tested against a length before it is used' 'if .*(\.len\(\) <=
 echo 'Point 7: switches'
 count '7a one comparison with a constant after another' '^    if [a-z]+ == (b.|[A-Z_]+|[0-9]+).* \{$|^    if same\('
 echo 'Point 8: proofs'
-printf '%5d  8a files of answers\n' "$(find crates -path '*/proofs/*' -name Answers.antt | grep -c '')"
-printf '%5d  8b answers\n' "$(find crates -path '*/proofs/*' -name Answers.antt -exec cat {} + | grep -cE '^pub [^ ]+ : goal\.')"
+printf '%5d  8a files of answers\n' "$(find crates -path '*/proofs/*' -name Answers.antt -not -path '*/out/*' | grep -c '')"
+printf '%5d  8b answers\n' "$(find crates -path '*/proofs/*' -name Answers.antt -not -path '*/out/*' -exec cat {} + | grep -cE '^pub [^ ]+ : goal\.')"
 printf '%5d  8c files that import from older homes\n' "$(grep -rlE '^use (lib|mathlib|borrow|native|Prim)\.' crates --include=*.antt | grep -vc /out/)"
 printf '%5d  8d lines of proofs\n' "$(find crates -path '*/proofs/*' -name '*.antt' -not -path '*/out/*' -exec cat {} + | grep -c '')"
