@@ -31,7 +31,7 @@ module _ {F : Type 0} (g : Mut F (Bor (List ℕ) × Unit {0}) Bool) where
   -- after n whole records the state is f, and `last` is what was read then: why that is all, where `after` is left in the file
   abbrev pub StopsAt : Option (List ℕ) → ℕ → F → List ℕ → Stop → Type 0
   StopsAt after n f last Ended = (length last < 128) × IsAtEnd after × (0 < length last → AnswersLast f last true)
-  StopsAt after n f last Unwritten = (0 < length last) × AnswersLast f last false
+  StopsAt after n f last Unwritten = (0 < length last) × (length last ≤ 128) × (length last < 128 → IsAtEnd after) × AnswersLast f last false
   StopsAt after n f last Counted = (last ≡ []) × (n ≡ 18446744073709551615)
 
   -- from the state f on every record is handed on, in order: first the whole ones, then the last one

@@ -1,5 +1,5 @@
 // The records of an open file.
-ghost use Rattle.std.specs.Prelude.{◌≡◌, ◌<◌, ◌≤◌, IfOk, length, take};
+ghost use Rattle.std.specs.Prelude.{◌≡◌, ◌<◌, IfOk, length, take};
 ghost use Rattle.std.specs.Io.KnownBytes.{Consumes, IsAtEnd};
 ghost use Rattle.input.specs.Records.{IsPrefixLen, HandedOn};
 
@@ -42,19 +42,18 @@ pub fn read_full<R: Read>(file: &mut R, bytes: &mut [u8]) -> io::Result<usize>
     Ok(done)
 }
 
-// The next record, read to the start of `bytes` and lent from there: 128 bytes, fewer in a short last record, none where nothing is left. A read
-// that fails is an error, and brings no record.
-pub fn next<'a, R: Read>(file: &mut R, bytes: &'a mut [u8; 128]) -> io::Result<&'a [u8]>
-    ensures small { IfOk result (λ s. length s.now ≤ 128) }
-    ensures bytes { IfOk result (λ s. Consumes (R.remaining file.old) (R.remaining file.new) s.now) }
-    ensures end { IfOk result (λ s. length s.now < 128 → IsAtEnd (R.remaining file.new)) }
+// Reads the next record to the start of `bytes`, and answers how many bytes it has: 128, fewer in a short last record, none where nothing is left. A
+// read that fails is an error, and brings no record.
+pub fn next<R: Read>(file: &mut R, bytes: &mut [u8; 128]) -> io::Result<usize>
+    ensures count { IfOk result (λ n. IsPrefixLen n bytes.new) }
+    ensures bytes { IfOk result (λ n. Consumes (R.remaining file.old) (R.remaining file.new) (take n bytes.new)) }
+    ensures end { IfOk result (λ n. n < 128 → IsAtEnd (R.remaining file.new)) }
 {
-    let n = read_full(file, bytes)?;
-    Ok(&bytes[..n])
+    read_full(file, bytes)
 }
 
 // Hands every record of the file to `answer`, in order, a short last one as it is. `answer` says whether its answer could be written; it stops
-// only there, or at a record that is not whole. A read that fails is an error, and what it brought is not handed on.
+// only there, at a record that is not whole, or where as many are answered as 64 bits count. A read that fails is an error, and what it brought is not handed on.
 pub fn each_record<R: Read, F: FnMut(&[u8]) -> bool>(
     file: &mut R,
     mut answer: F,
@@ -64,12 +63,11 @@ pub fn each_record<R: Read, F: FnMut(&[u8]) -> bool>(
 {
     for count in 0..u64::MAX {
         let mut bytes = [0u8; 128];
-        let record = next(file, &mut bytes)?;
-        if record.len() == 0 {
+        let len = next(file, &mut bytes)?;
+        if len == 0 {
             return Ok(Stop::Ended);
         }
-        let len = record.len();
-        let written = answer(record);
+        let written = answer(&bytes[..len]);
         if !written {
             return Ok(Stop::Unwritten);
         }

@@ -1,12 +1,13 @@
 -- What the readers of an image promise.
 -- Assumes nothing.
-use Rattle.std.specs.Prelude.{◌≡◌, false, List, ℕ, ◌/◌, ◌≤◌, ◌<◌, length, get_or, Some, None, Result, IsErr, IsOk, IsOkAnd, IsNone, IsSome}
+use Rattle.std.specs.Prelude.{Ok, ◌≡◌, false, List, ℕ, ◌/◌, ◌≤◌, ◌<◌, length, get_or, Some, None, Result, IsErr, IsOk, IsOkAnd, IsNone, IsSome}
 use Rattle.std.specs.Prelude.{Option as Given}
 use Rattle.std.proofs.Math.Option.{Option, none, some}
 use denote.Ref.{Bor}
 use Rattle.common.specs.Limits.{record_size}
 use Rattle.common.specs.declared.refusals.Refusal.{Refusal}
 use Rattle.names.specs.Unpacked.{unpacked}
+use Rattle.grammar.specs.Readings.{EndOf}
 use Rattle.grammar.specs.Lines.{read_line}
 use Rattle.frame.specs.Records.{records_of}
 use Rattle.code.specs.Count.{patterns_from}
@@ -63,6 +64,7 @@ LinesAs s (some t) r = IsOkAnd r (λ p. Represents p.0 t × (records_in p.1.now 
 -- the records of any bytes; bytes after the last whole record are not read
 pub record LinesTaken (s : List ℕ) (r : Result (State × Bor (List ℕ)) Refusal) : Type 0 where
   pub right : LinesAs s (take_lines fresh_machine (line_records (records_in s))) r
+  pub end : (p : State × Bor (List ℕ)) → r ≡ Ok p → EndOf s p.1.now
 
 -- THE IMAGE
 

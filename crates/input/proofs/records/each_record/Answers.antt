@@ -1,4 +1,4 @@
-use Rattle.std.proofs.Common.{◌≡◌, [], length, refl, rules, arith, of_calls}
+use Rattle.std.proofs.Common.{◌≡◌, [], length, take, refl, rules, arith, of_calls}
 use Rattle.input.proofs.RecordLaws.{whole_none, whole_more, nothing_read}
 use Rattle.input.proofs.records.each_record.Goals as goal
 
@@ -7,21 +7,22 @@ loop-count-init g c = record { callable = search rules; so_far = whole_none g.F.
 
 pub loop-count-preserved : goal.loop-count-preserved
 loop-count-preserved g c =
-    let long : length c.in_ok-record.record.now ≡ 128 = omega (arith, c.in_ok-record.ensures.small) in
+    let room : length c.next.new.bytes ≡ 128 = search rules in
+    let long : length (take c.in_ok-len.len c.next.new.bytes) ≡ 128 = omega (arith, c.in_ok-len.ensures.count) in
     record {
       callable = search (of_calls) parts 8;
-      so_far = whole_more g.F.FnMut _ _ _ _ _ _ _ _ c.loop-count.invariant.so_far c.in_ok-record.ensures.bytes long (record { shown = c.in_ok-record.record; shows = refl; called = rw c.if-not-written.false at c.answer-written.ensures });
+      so_far = whole_more g.F.FnMut _ _ _ _ _ _ _ _ c.loop-count.invariant.so_far c.in_ok-len.ensures.bytes long (record { shown = _; shows = refl; called = rw c.if-not-written.false at c.answer-written.ensures });
     }
 
-pub returns-then-record-eq0 : goal.returns-then-record-eq0
-returns-then-record-eq0 g c = record {
+pub returns-then-len-eq0 : goal.returns-then-len-eq0
+returns-then-len-eq0 g c = record {
   n = _;
   left = _;
   between = _;
   first = c.loop-count.invariant.so_far;
   last = _;
-  bytes = c.in_ok-record.ensures.bytes;
-  stops = (omega arith, c.in_ok-record.ensures.end (omega arith), λ some. absurd (omega arith));
+  bytes = c.in_ok-len.ensures.bytes;
+  stops = (omega (arith, c.in_ok-len.ensures.count), c.in_ok-len.ensures.end (omega arith), λ some. absurd (omega (arith, c.in_ok-len.ensures.count)));
 }
 
 pub returns-then-not-written : goal.returns-then-not-written
@@ -31,8 +32,8 @@ returns-then-not-written g c = record {
   between = _;
   first = c.loop-count.invariant.so_far;
   last = _;
-  bytes = c.in_ok-record.ensures.bytes;
-  stops = (omega arith, (_, record { shown = c.in_ok-record.record; shows = refl; called = rw c.if-not-written.true at c.answer-written.ensures }));
+  bytes = c.in_ok-len.ensures.bytes;
+  stops = (omega (arith, c.in_ok-len.ensures.count), (let room : length c.next.new.bytes ≡ 128 = search rules in omega (arith, c.in_ok-len.ensures.count)), (λ short. c.in_ok-len.ensures.end (omega (arith, c.in_ok-len.ensures.count))), (_, record { shown = _; shows = refl; called = rw c.if-not-written.true at c.answer-written.ensures }));
 }
 
 pub returns-then-len-lt128 : goal.returns-then-len-lt128
@@ -42,8 +43,8 @@ returns-then-len-lt128 g c = record {
   between = _;
   first = c.loop-count.invariant.so_far;
   last = _;
-  bytes = c.in_ok-record.ensures.bytes;
-  stops = (omega arith, c.in_ok-record.ensures.end (omega arith), λ some. (_, record { shown = c.in_ok-record.record; shows = refl; called = rw c.if-not-written.false at c.answer-written.ensures }));
+  bytes = c.in_ok-len.ensures.bytes;
+  stops = (omega (arith, c.in_ok-len.ensures.count), c.in_ok-len.ensures.end (omega arith), λ some. (_, record { shown = _; shows = refl; called = rw c.if-not-written.false at c.answer-written.ensures }));
 }
 
 pub returns : goal.returns
