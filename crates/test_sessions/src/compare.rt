@@ -73,10 +73,10 @@ fn next_compared(
     monitor: &mut State,
 ) -> io::Result<Option<Finding>> {
     let mut bytes = [0u8; 128];
-    let record = next(records, &mut bytes)?;
+    let len = next(records, &mut bytes)?;
     let mut stored = [0u8; 50];
     let n = read_full(replies, &mut stored)?;
-    if record.len() == 0 {
+    if len == 0 {
         let finding = if n == 0 {
             Finding::Ended
         } else {
@@ -87,7 +87,7 @@ fn next_compared(
     if n < 50 {
         return Ok(Some(Finding::RepliesEnded));
     }
-    Ok(answered(monitor, record, &stored))
+    Ok(answered(monitor, &bytes[..len], &stored))
 }
 
 // Every record, in order, from a fresh monitor on, as far as the replies are as stored. The loop has to end and nothing says that a file does,
