@@ -1,12 +1,6 @@
 -- When a batch is taken, exactly, and what it is then: of any monitor.
 -- Assumes nothing.
-use mathlib.Core.Path.{◌≡◌, refl, ap, subst}
-use mathlib.Core.Bool.{Bool, true, false}
-use mathlib.Core.Logic.{◌↔◌}
-use mathlib.Core.List.{List}
-use Prim.Native.Nat.{ℕ, ◌/◌}
-use native.Mathlib.Omega.{arith}
-use lib.ListN.{length}
+use Rattle.std.proofs.Common.{◌≡◌, refl, ap, subst, Bool, true, false, ◌↔◌, List, ℕ, ◌/◌, arith, length}
 use Rattle.common.proofs.Bools.{not-true}
 use Rattle.follow.specs.declared.state.State.{State}
 use Rattle.book.specs.Decide.{Answer}

@@ -1,10 +1,6 @@
 -- Which lengths make a batch, test by test.
 -- Assumes nothing.
-use mathlib.Core.Path.{◌≡◌}
-use mathlib.Core.Bool.{true}
-use Prim.Native.Nat.{ℕ, ◌*◌, ◌/◌, ◌%◌}
-use lib.Dec.{eqb, leb}
-use borrow.Author.Tests.{eqb-true}
+use Rattle.std.proofs.Common.{◌≡◌, true, ℕ, ◌*◌, ◌/◌, ◌%◌, eqb, leb, eqb-true}
 use Rattle.common.proofs.Bools.{and_left, and_right}
 use Rattle.book.specs.Batches.{sizes_fit}
 

@@ -1,14 +1,8 @@
 -- A machine that an accepted image says is one that operations could leave, and the book that follows its marks is in order.
 -- Assumes nothing.
-use mathlib.Core.Path.{◌≡◌, refl, sym, ap, ◌∙◌, subst}
-use mathlib.Core.Bool.{Bool, true, false, cond}
-use mathlib.Core.List.{List, [], ◌∷◌, map}
+use Rattle.std.proofs.Common.{◌≡◌, refl, sym, ap, ◌∙◌, subst, Bool, true, false, cond, List, [], ◌∷◌, map, ℕ, ◌/◌, ◌%◌, ◌≤◌, arith, eqb, length, replicate, eqb-true}
 use mathlib.Core.Option.{Option, none, some, none-ne-some, some-injective}
-use Prim.Native.Nat.{ℕ, ◌/◌, ◌%◌, ◌≤◌}
-use native.Mathlib.Omega.{arith}
-use lib.Dec.{eqb}
-use lib.ListN.{length, replicate, length-map}
-use borrow.Author.Tests.{eqb-true}
+use lib.ListN.{length-map}
 use Rattle.common.specs.All.{All}
 use Rattle.common.specs.Limits.{record_size, reply_size}
 use Rattle.common.proofs.AllLaws.{all_of, all_mapped}

@@ -1,13 +1,9 @@
 -- An image that is accepted by the words of specs/Accepted.antt is taken by `restored`, which gives the machine that they say.
 -- Assumes nothing.
-use mathlib.Core.Path.{◌≡◌, refl, sym, ap, ◌∙◌, subst}
-use mathlib.Core.Bool.{Bool, cond}
-use mathlib.Core.List.{List, [], ◌∷◌, ◌++◌, map, map-append}
+use Rattle.std.proofs.Common.{◌≡◌, refl, sym, ap, ◌∙◌, subst, Bool, cond, List, [], ◌∷◌, ◌++◌, map, ℕ, ◌≤◌, arith, length, get_or, eq-eqb}
+use mathlib.Core.List.{map-append}
 use mathlib.Core.Option.{Option, none, some}
-use Prim.Native.Nat.{ℕ, ◌≤◌}
-use native.Mathlib.Omega.{arith}
-use lib.ListN.{length, get_or, length-map}
-use borrow.Author.Tests.{eq-eqb}
+use lib.ListN.{length-map}
 use Rattle.common.specs.All.{All}
 use Rattle.common.proofs.AllLaws.{all_append, all_left, all_right, all_map}
 use Rattle.frame.specs.Record.{line_byte}

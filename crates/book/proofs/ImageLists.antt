@@ -1,14 +1,8 @@
 -- The lists of records that an image is made of: in declared order and back, one after the other and cut again, lines and what follows them.
 -- Assumes nothing.
-use mathlib.Core.Path.{◌≡◌, refl, ap, ap₂, ◌∙◌}
-use mathlib.Core.Bool.{Bool, true, false, cond}
-use mathlib.Core.List.{List, [], ◌∷◌, ◌++◌, map, map-append, flatten}
+use Rattle.std.proofs.Common.{◌≡◌, refl, ap, ap₂, ◌∙◌, Bool, true, false, cond, List, [], ◌∷◌, ◌++◌, map, ℕ, ◌*◌, arith, length, get_or, length-append, take_at, drop_at, eqb-true}
+use mathlib.Core.List.{map-append, flatten}
 use mathlib.Core.Option.{Option, none, some, none-ne-some}
-use Prim.Native.Nat.{ℕ, ◌*◌}
-use native.Mathlib.Omega.{arith}
-use lib.ListN.{length, get_or, length-append}
-use lib.Seq.{take_at, drop_at}
-use borrow.Author.Tests.{eqb-true}
 use Rattle.common.specs.All.{All}
 use Rattle.common.specs.Limits.{record_size}
 use Rattle.frame.specs.Record.{line_byte}

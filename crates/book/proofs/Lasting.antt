@@ -1,11 +1,8 @@
 -- What holds of every machine that operations leave, and by which its image says it whole: a fresh machine has it, and every call keeps it.
 -- Assumes nothing.
-use mathlib.Core.Path.{◌≡◌, refl, sym, ap, ap₂, ◌∙◌, subst}
-use mathlib.Core.Bool.{Bool, true, false, ◌||◌}
-use mathlib.Core.List.{List, [], ◌∷◌, map, map-map}
-use Prim.Native.Nat.{ℕ, ◌<◌, ◌≤◌}
-use native.Mathlib.Omega.{arith}
-use lib.ListN.{length, drop, length-map}
+use Rattle.std.proofs.Common.{◌≡◌, refl, sym, ap, ap₂, ◌∙◌, subst, Bool, true, false, ◌||◌, List, [], ◌∷◌, map, ℕ, ◌<◌, ◌≤◌, arith, length, drop}
+use mathlib.Core.List.{map-map}
+use lib.ListN.{length-map}
 use lib.Seq.{drop-append-le}
 use Rattle.common.specs.All.{All}
 use Rattle.common.specs.Limits.{max_roles, max_rules}

@@ -1,18 +1,10 @@
 -- `M` records: what keeping writes is read again, and nothing else is read.
 -- Assumes nothing.
-use mathlib.Core.Path.{◌≡◌, refl, sym, ap, ◌∙◌, subst}
-use mathlib.Core.Bool.{Bool, true, false, cond, ◌&&◌}
-use mathlib.Core.List.{List, [], ◌∷◌, ◌++◌, append_assoc}
-use mathlib.Core.Logic.{◌↔◌}
+use Rattle.std.proofs.Common.{◌≡◌, refl, sym, ap, ◌∙◌, subst, Bool, true, false, cond, ◌&&◌, List, [], ◌∷◌, ◌++◌, append_assoc, ◌↔◌, ℕ, zero, suc, ◌+◌, ◌-◌, ◌*◌, ◌/◌, ◌%◌, ◌^◌, ◌<◌, ◌≤◌, mul_assoc, mul-le-mul_right, arith, ltb, pow_mono, length, take, drop, length-append, take_at, drop_at, drop-drop, ltb-true, ltb-false, lt-ltb, le-leb}
 use mathlib.Core.Option.{none, some, none-ne-some, some-injective}
-use Prim.Native.Nat.{ℕ, zero, suc, ◌+◌, ◌-◌, ◌*◌, ◌/◌, ◌%◌, ◌^◌, ◌<◌, ◌≤◌}
-use native.Mathlib.Nat.{pow-succ', mul_assoc, mul-le-mul_right}
-use native.Mathlib.Omega.{arith}
-use lib.Dec.{ltb}
-use lib.Pow.{pow_mono}
-use lib.ListN.{length, take, drop, length-append}
-use lib.Seq.{take-nil, take_at, drop_at, drop-drop}
-use borrow.Author.Tests.{ltb-true, ltb-false, lt-ltb, le-leb, lt-leb}
+use native.Mathlib.Nat.{pow-succ'}
+use lib.Seq.{take-nil}
+use borrow.Author.Tests.{lt-leb}
 use Rattle.common.specs.Limits.{record_size, name_size, max_patterns}
 use Rattle.lexer.specs.Class.{within}
 use Rattle.lexer.specs.Words.{same}

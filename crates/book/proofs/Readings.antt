@@ -1,7 +1,6 @@
 -- Whichever reading of C-12 is taken at each restore, the results of a session are the same.
 -- Assumes nothing.
-use mathlib.Core.Path.{◌≡◌, sym, ap, ◌∙◌, subst}
-use mathlib.Core.List.{List}
+use Rattle.std.proofs.Common.{◌≡◌, sym, ap, ◌∙◌, subst, List}
 use mathlib.Core.Option.{Option}
 use Rattle.common.specs.All.{All}
 use Rattle.book.specs.MachineSteps.{PositionMachine, fresh_machine, machine_of}

@@ -1,11 +1,6 @@
 -- Every reply has 50 bytes: the buffer keeps its length.
 -- Assumes nothing.
-use mathlib.Core.Path.{◌≡◌}
-use mathlib.Core.Bool.{Bool, true, false, cond}
-use mathlib.Core.List.{List, []}
-use Prim.Native.Nat.{ℕ}
-use lib.Dec.{eqb}
-use lib.ListN.{length}
+use Rattle.std.proofs.Common.{◌≡◌, Bool, true, false, cond, List, [], ℕ, eqb, length}
 use Rattle.chain.specs.Work.{committed, held, unfit, too_long}
 use Rattle.common.specs.Limits.{max_responses}
 use Rattle.columns.specs.Kinds.{letter_of}

@@ -1,13 +1,9 @@
 -- The image of a machine that operations leave says that machine: what keeping writes, restoring reads.
 -- Assumes nothing.
-use mathlib.Core.Path.{◌≡◌, refl, sym, ap, ap₂, ◌∙◌}
-use mathlib.Core.Bool.{Bool, cond}
-use mathlib.Core.List.{List, [], ◌∷◌, ◌++◌, map, map-map, append_assoc}
+use Rattle.std.proofs.Common.{◌≡◌, refl, sym, ap, ap₂, ◌∙◌, Bool, cond, List, [], ◌∷◌, ◌++◌, map, append_assoc, ℕ, ◌*◌, ◌/◌, ◌%◌, arith, length, drop, eq-eqb}
+use mathlib.Core.List.{map-map}
 use mathlib.Core.Option.{Option, none, some}
-use Prim.Native.Nat.{ℕ, ◌*◌, ◌/◌, ◌%◌}
-use native.Mathlib.Omega.{arith}
-use lib.ListN.{length, drop, length-map}
-use borrow.Author.Tests.{eq-eqb}
+use lib.ListN.{length-map}
 use Rattle.common.specs.All.{All}
 use Rattle.common.specs.Limits.{record_size}
 use Rattle.common.proofs.AllLaws.{all_of, all_append, all_mapped}

@@ -1,13 +1,7 @@
 -- A round goes exactly as C-13 says, and as restoring, running the batch and keeping in any session.
 -- Assumes nothing.
-use mathlib.Core.Path.{◌≡◌, refl, sym, ap, ◌∙◌, subst}
-use mathlib.Core.Bool.{Bool, true, false}
-use mathlib.Core.Logic.{◌↔◌}
-use mathlib.Core.List.{List, [], ◌∷◌}
+use Rattle.std.proofs.Common.{◌≡◌, refl, sym, ap, ◌∙◌, subst, Bool, true, false, ◌↔◌, List, [], ◌∷◌, ℕ, ◌≤◌, ◌<◌, arith, length}
 use mathlib.Core.Option.{Option, none, some}
-use Prim.Native.Nat.{ℕ, ◌≤◌, ◌<◌}
-use native.Mathlib.Omega.{arith}
-use lib.ListN.{length}
 use Rattle.common.proofs.Bools.{not-true, true_not_false}
 use Rattle.book.specs.Decide.{Answer}
 use Rattle.book.specs.MachineSteps.{PositionMachine, machine_step, machine_of}

@@ -1,13 +1,8 @@
 -- Demand 3 as a host sees it that holds the monitor as an image: rounds in turn answer as the plain book does, fed with all records of the batches taken, in a row.
 -- Document 02, C-13.
 -- Assumes nothing.
-use mathlib.Core.Path.{◌≡◌, refl, sym, ap, ap₂, ◌∙◌, subst}
-use mathlib.Core.Bool.{Bool, true, false, cond}
-use mathlib.Core.List.{List, [], ◌∷◌, ◌++◌}
+use Rattle.std.proofs.Common.{◌≡◌, refl, sym, ap, ap₂, ◌∙◌, subst, Bool, true, false, cond, List, [], ◌∷◌, ◌++◌, ℕ, ◌*◌, arith, length}
 use mathlib.Core.Option.{some}
-use Prim.Native.Nat.{ℕ, ◌*◌}
-use native.Mathlib.Omega.{arith}
-use lib.ListN.{length}
 use Rattle.common.specs.Limits.{record_size}
 use Rattle.book.specs.Decide.{Call, Answer}
 use Rattle.book.specs.Book.{Book, fresh_book, book_step}

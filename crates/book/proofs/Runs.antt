@@ -1,9 +1,6 @@
 -- What holds step by step holds over every list: two machines that answer alike, and a monitor known by its contracts.
 -- Assumes nothing.
-use mathlib.Core.Path.{◌≡◌, refl, ap, ap₂}
-use mathlib.Core.List.{List, [], ◌∷◌, ◌++◌}
-use Prim.Native.Nat.{suc}
-use lib.ListN.{length}
+use Rattle.std.proofs.Common.{◌≡◌, refl, ap, ap₂, List, [], ◌∷◌, ◌++◌, suc, length}
 use Rattle.book.specs.Session.{answers, left, Run, run_end, run_step}
 
 -- TWO MACHINES

@@ -1,14 +1,10 @@
 -- The lines of an image of a machine that operations leave: each is a record whose text says its line, and a fresh machine takes them in order.
 -- Assumes nothing.
-use mathlib.Core.Path.{◌≡◌, refl, sym, ap, ◌∙◌, subst}
-use mathlib.Core.Bool.{true, false}
-use mathlib.Core.List.{List, [], ◌∷◌, ◌++◌, map, map-append}
+use Rattle.std.proofs.Common.{◌≡◌, refl, sym, ap, ◌∙◌, subst, true, false, List, [], ◌∷◌, ◌++◌, map, ℕ, ◌<◌, ◌≤◌, arith, length, drop, eq-eqb}
+use mathlib.Core.List.{map-append}
 use mathlib.Core.Option.{Option, some}
-use Prim.Native.Nat.{ℕ, ◌<◌, ◌≤◌}
-use native.Mathlib.Omega.{arith}
-use lib.ListN.{length, drop, length-map}
+use lib.ListN.{length-map}
 use lib.Seq.{drop-append-le}
-use borrow.Author.Tests.{eq-eqb}
 use Rattle.common.specs.All.{All}
 use Rattle.common.specs.Limits.{max_roles, max_rules}
 use Rattle.common.proofs.AllLaws.{all_left, all_right}

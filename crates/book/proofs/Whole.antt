@@ -1,7 +1,6 @@
 -- Demand 3, over the list of operations as a whole. Document 01, "The full list": "Demand 3 is said of the list of calls as a whole, once"; document 02, C-11 and C-12.
 -- Assumes nothing.
-use mathlib.Core.Path.{◌≡◌, refl, sym, ap, ◌∙◌}
-use mathlib.Core.List.{List, [], ◌∷◌, map}
+use Rattle.std.proofs.Common.{◌≡◌, refl, sym, ap, ◌∙◌, List, [], ◌∷◌, map}
 use mathlib.Core.Option.{Option, some-injective}
 use Rattle.book.specs.Decide.{Call}
 use Rattle.book.specs.Book.{Book, fresh_book, book_step}

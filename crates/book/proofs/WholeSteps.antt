@@ -1,10 +1,7 @@
 -- One operation, by the machine with positions and by the book of the session: the same result, and the machine left is the book left with its list taken to positions.
 -- Assumes nothing.
-use mathlib.Core.Path.{◌≡◌, refl, sym, ap, ◌∙◌, subst}
-use mathlib.Core.Bool.{Bool, true, false, cond}
-use mathlib.Core.List.{List, [], ◌∷◌}
+use Rattle.std.proofs.Common.{◌≡◌, refl, sym, ap, ◌∙◌, subst, Bool, true, false, cond, List, [], ◌∷◌, ℕ}
 use mathlib.Core.Option.{Option, none, some, none-ne-some, some-injective}
-use Prim.Native.Nat.{ℕ}
 use Rattle.common.specs.All.{All}
 use Rattle.lexer.specs.Words.{same}
 use Rattle.lexer.proofs.KindLaws.{same_true}

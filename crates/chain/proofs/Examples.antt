@@ -1,10 +1,6 @@
 -- Document 01's printed runs, computed by the definition. Roles: 2 uv, 3 expose, others from 4 on. Rules are numbered in declared order.
 -- Assumes nothing.
-use mathlib.Core.Path.{◌≡◌, refl}
-use mathlib.Core.Bool.{true}
-use mathlib.Core.List.{List, [], ◌∷◌, ◌++◌}
-use Prim.Native.Nat.{ℕ, suc}
-use lib.ListN.{replicate}
+use Rattle.std.proofs.Common.{◌≡◌, refl, true, List, [], ◌∷◌, ◌++◌, ℕ, suc, replicate}
 use Rattle.grammar.specs.Trees.{Pattern, plain, items, item, exact, close, any_event, Response, pass, hold, send, anew, named, place}
 use Rattle.patterns.specs.Meets.{items_meet, meets}
 use Rattle.patterns.specs.Judged.{order_in}

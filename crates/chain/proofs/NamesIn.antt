@@ -1,9 +1,7 @@
 -- The work names no roles but those of the event and of the duties: what each part of it makes has In where they have.
 -- Assumes nothing.
-use mathlib.Core.Bool.{Bool, true, false, cond, ◌&&◌}
-use mathlib.Core.List.{List, [], ◌∷◌}
+use Rattle.std.proofs.Common.{Bool, true, false, cond, ◌&&◌, List, [], ◌∷◌, ℕ, zero, suc, ◌-◌}
 use mathlib.Core.Option.{Option, none, some}
-use Prim.Native.Nat.{ℕ, zero, suc, ◌-◌}
 use lib.ListN.{get_elem?}
 use Rattle.grammar.specs.Trees.{named, place, Template}
 use Rattle.grammar.specs.Names.{slots_names}

@@ -1,9 +1,7 @@
 -- A committed event has no roles but those of the event offered and of the duties.
 -- Assumes nothing.
-use mathlib.Core.Path.{◌≡◌, subst}
-use mathlib.Core.List.{List, [], ◌∷◌}
+use Rattle.std.proofs.Common.{◌≡◌, subst, List, [], ◌∷◌, ℕ, zero, suc, ◌-◌}
 use mathlib.Core.Option.{Option, none, some}
-use Prim.Native.Nat.{ℕ, zero, suc, ◌-◌}
 use Rattle.grammar.specs.Trees.{Response, pass, hold, send, anew}
 use Rattle.grammar.specs.Names.{response_names}
 use Rattle.common.specs.All.{All}

@@ -1,11 +1,8 @@
 -- The work of an event is the same under other names: it depends on nothing but how the roles at hand compare.
 -- Assumes nothing.
-use mathlib.Core.Path.{◌≡◌, refl, sym, ◌∙◌}
-use mathlib.Core.Bool.{Bool, true, false, cond, ◌&&◌}
-use mathlib.Core.List.{List, [], ◌∷◌, map}
+use Rattle.std.proofs.Common.{◌≡◌, refl, sym, ◌∙◌, Bool, true, false, cond, ◌&&◌, List, [], ◌∷◌, map, ℕ, zero, suc, ◌-◌}
 use mathlib.Core.Option
 use mathlib.Core.Option.{Option, none, some}
-use Prim.Native.Nat.{ℕ, zero, suc, ◌-◌}
 use lib.ListN.{get_elem?}
 use Rattle.grammar.specs.Trees.{Pattern, named, place, Template, Response, pass, hold, send, anew}
 use Rattle.grammar.specs.Rename.{map_pattern, map_slots, map_response}

@@ -1,10 +1,6 @@
 -- The codes of a rule's tokens are the code of its tree.
 -- Assumes nothing.
-use mathlib.Core.Path.{◌≡◌, refl, ap, ◌∙◌}
-use mathlib.Core.List.{List, [], ◌∷◌, ◌++◌}
-use Prim.Native.Nat.{ℕ, zero, suc, ◌+◌, ◌≤◌}
-use native.Mathlib.Omega.{arith}
-use lib.ListN.{replicate}
+use Rattle.std.proofs.Common.{◌≡◌, refl, ap, ◌∙◌, List, [], ◌∷◌, ◌++◌, ℕ, zero, suc, ◌+◌, ◌≤◌, arith, replicate}
 use Rattle.lexer.specs.Class.{class_of}
 use Rattle.lexer.specs.Words.{kind_of, same, name_like, digit_kind, or_w}
 use Rattle.lexer.specs.Tokens.{Token, word, mark}

@@ -1,16 +1,10 @@
 -- Laws of spaces written up to a column.
 -- Assumes nothing.
-use mathlib.Core.Path.{◌≡◌, refl, sym, ap, ◌∙◌}
-use mathlib.Core.Bool.{Bool, true, false}
-use mathlib.Core.List.{List, [], ◌∷◌, ◌++◌}
-use Prim.Native.Nat.{ℕ, ◌+◌, ◌-◌, ◌<◌, ◌≤◌, min}
+use Rattle.std.proofs.Common.{◌≡◌, refl, sym, ap, ◌∙◌, Bool, true, false, List, [], ◌∷◌, ◌++◌, ℕ, ◌+◌, ◌-◌, ◌<◌, ◌≤◌, min, arith, leb, length, length-append, leb-true, leb-false}
 use borrow.Rule.Slice.PartMut.{put_mid}
-use native.Mathlib.Omega.{arith}
-use lib.Dec.{leb}
-use lib.ListN.{length, length-append, length-replicate}
+use lib.ListN.{length-replicate}
 use lib.Seq.{take-append-le}
 use Rattle.std.proofs.lemmas.List.{take_min}
-use borrow.Author.Tests.{leb-true, leb-false}
 use Rattle.columns.specs.Texts.{spaces, padded, opening_of, front_of}
 use Rattle.columns.specs.Writing.{fitting, Writes}
 use Rattle.columns.proofs.PaddedLaws.{take-spaces, padded-short, padded_cut, padded-after, padded-more}

@@ -1,15 +1,7 @@
 -- Laws of writes: one after another is one write of both texts, and a buffer written whole is what was written.
 -- Assumes nothing.
-use mathlib.Core.Path.{◌≡◌, refl, sym, ap, ◌∙◌}
-use mathlib.Core.Bool.{Bool, true, false}
-use mathlib.Core.List.{List, [], ◌∷◌, ◌++◌, append_assoc, append-nil}
-use Prim.Native.Nat.{ℕ, zero, suc, ◌+◌, ◌-◌, ◌<◌, ◌≤◌, min}
-use native.Mathlib.Numerals.{add-one}
-use native.Mathlib.Omega.{arith}
-use lib.Dec.{ltb}
-use lib.ListN.{length, take, drop, set, length-append, length-take, length-drop, take-append-drop, drop_of_length-le}
-use lib.Seq.{take-nil, take_all, take_at, take-take, take-append-le, drop_at, drop-drop, length-take-le, append_snoc, set_split}
-use borrow.Author.Tests.{ltb-true, ltb-false}
+use Rattle.std.proofs.Common.{◌≡◌, refl, sym, ap, ◌∙◌, Bool, true, false, List, [], ◌∷◌, ◌++◌, append_assoc, append-nil, ℕ, zero, suc, ◌+◌, ◌-◌, ◌<◌, ◌≤◌, min, add-one, arith, ltb, length, take, drop, set, length-append, length-take, length-drop, take-append-drop, drop_of_length-le, take_all, take_at, take-take, drop_at, drop-drop, length-take-le, ltb-true, ltb-false}
+use lib.Seq.{take-nil, take-append-le, append_snoc, set_split}
 use borrow.Rule.Slice.PartMut.{put_mid}
 use Rattle.std.proofs.lemmas.List.{take_min}
 use Rattle.std.proofs.lemmas.Slice.{put_mid-paste}

@@ -1,9 +1,6 @@
 -- Laws of a property of every element of a list.
 -- Assumes nothing.
-use mathlib.Core.Path.{◌≡◌, refl, ap₂}
-use mathlib.Core.List.{List, [], ◌∷◌, ◌++◌, map}
-use Prim.Native.Nat.{ℕ, zero, suc}
-use lib.ListN.{drop}
+use Rattle.std.proofs.Common.{◌≡◌, refl, ap₂, List, [], ◌∷◌, ◌++◌, map, ℕ, zero, suc, drop}
 use Rattle.common.specs.All.{All}
 
 module _ {A : Type 0} (P : A → Type 0) where

@@ -1,10 +1,6 @@
 -- Laws of and, or and not, for tests put together.
 -- Assumes nothing.
-use mathlib.Core.Path.{◌≡◌, refl, sym}
-use mathlib.Core.Bool.{Bool, true, false, not, ◌&&◌, ◌||◌}
-use mathlib.Core.Logic.{◌↔◌}
-use Prim.Native.Nat.{ℕ}
-use native.Mathlib.Omega.{arith}
+use Rattle.std.proofs.Common.{◌≡◌, refl, sym, Bool, true, false, not, ◌&&◌, ◌||◌, ◌↔◌, ℕ, arith}
 pub use Rattle.std.proofs.lemmas.Bool.{or_left, or_right, or_cases, false_from_ne_true as not-true, not-true as held-not, not-false as held_from}
 
 pub and_left : (a b : Bool) → a && b ≡ true → a ≡ true

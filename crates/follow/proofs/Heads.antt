@@ -1,10 +1,6 @@
 -- Each level begins with a byte that starts a base.
 -- Assumes nothing.
-use mathlib.Core.Path.{◌≡◌, refl, ap, ◌∙◌}
-use mathlib.Core.Bool.{true}
-use mathlib.Core.List.{List, ◌∷◌, ◌++◌}
-use Prim.Native.Nat.{ℕ, ◌≤◌}
-use lib.ListN.{length, get_or, drop, replicate}
+use Rattle.std.proofs.Common.{◌≡◌, refl, ap, ◌∙◌, true, List, ◌∷◌, ◌++◌, ℕ, ◌≤◌, length, get_or, drop, replicate}
 use Rattle.grammar.specs.Trees.{Pattern, plain, bracketed, any_event, items, Past, only, either, Sequence, single, beside, Factor, starred, Base, pattern, nothing, group}
 use Rattle.code.specs.Trees.{code_simple, code_pattern, code_past, code_sequence, code_factor, code_base}
 use Rattle.patterns.proofs.Here.{none, here}

@@ -1,8 +1,6 @@
 -- A past with other names finds the same: its summary are those of the past as it was, where the patterns with other names are met as theirs are.
 -- Assumes nothing.
-use mathlib.Core.Path.{◌≡◌, refl, ap}
-use mathlib.Core.Bool.{Bool}
-use Prim.Native.Nat.{ℕ, zero, suc}
+use Rattle.std.proofs.Common.{◌≡◌, refl, ap, Bool, ℕ, zero, suc}
 use Rattle.grammar.specs.Trees as trees
 use Rattle.grammar.specs.Trees.{Pattern, only, either, single, beside, starred, pattern, nothing, group}
 use Rattle.grammar.specs.Rename.{map_pattern, map_past, map_sequence, map_factor, map_base}

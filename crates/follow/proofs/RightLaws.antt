@@ -1,10 +1,6 @@
 -- Positions that are right stay right where the events meet the same patterns by another test.
 -- Assumes nothing.
-use mathlib.Core.Path.{◌≡◌, refl, sym, ap₂, ◌∙◌}
-use mathlib.Core.Bool.{Bool, ◌||◌}
-use mathlib.Core.Logic.{inl, inr}
-use mathlib.Core.List.{List}
-use Prim.Native.Nat.{ℕ, ◌+◌}
+use Rattle.std.proofs.Common.{◌≡◌, refl, sym, ap₂, ◌∙◌, Bool, ◌||◌, inl, inr, List, ℕ, ◌+◌}
 use Rattle.common.specs.All.{All}
 use Rattle.common.proofs.AllLaws.{all_map}
 use Rattle.positions.specs.Past.{Past, pat, empty, seq, alt, star}

@@ -1,7 +1,6 @@
 -- A past's tree and its meaning have equally many patterns.
 -- Assumes nothing.
-use mathlib.Core.Path.{◌≡◌, refl, ◌∙◌}
-use Prim.Native.Nat.{ℕ, zero, suc}
+use Rattle.std.proofs.Common.{◌≡◌, refl, ◌∙◌, ℕ, zero, suc}
 use Rattle.grammar.specs.Trees.{Pattern, Past, only, either, Sequence, single, beside, Factor, starred, Base, pattern, nothing, group}
 use Rattle.grammar.specs.Size.{size_past, size_sequence, size_factor, size_base}
 use Rattle.positions.specs.Past as meaning

@@ -1,13 +1,7 @@
 -- What each way through `stars` shows.
 -- Assumes nothing.
-use mathlib.Core.Path.{◌≡◌, refl, sym, ap, ◌∙◌}
-use mathlib.Core.List.{List, ◌++◌}
-use Prim.Native.Nat.{ℕ, zero, suc, ◌+◌, ◌<◌}
-use native.Mathlib.Omega.{arith}
-use lib.ListN.{length, get_or, drop, replicate, get_or-eq_default}
-use lib.Dec.{ltb}
-use mathlib.Core.Bool.{Bool, true, false}
-use borrow.Author.Tests.{ltb-true, ltb-false, eq-eqb, eqb-true}
+use Rattle.std.proofs.Common.{◌≡◌, refl, sym, ap, ◌∙◌, List, ◌++◌, ℕ, zero, suc, ◌+◌, ◌<◌, arith, length, get_or, drop, replicate, ltb, Bool, true, false, ltb-true, ltb-false, eq-eqb, eqb-true}
+use lib.ListN.{get_or-eq_default}
 use Rattle.common.proofs.Bools.{and_left, and_right, and_both, true_not_false}
 use Rattle.patterns.proofs.Here.{here, first}
 use Rattle.positions.specs.Summaries.{star_summary}

@@ -1,8 +1,6 @@
 -- What the pass finds of a past's end does not depend on the event or on the positions held.
 -- Assumes nothing.
-use mathlib.Core.Path.{◌≡◌, refl, subst}
-use mathlib.Core.Bool.{Bool}
-use Prim.Native.Nat.{ℕ}
+use Rattle.std.proofs.Common.{◌≡◌, refl, subst, Bool, ℕ}
 use Rattle.positions.specs.Past.{Past, pat, empty, seq, alt, star}
 use Rattle.positions.specs.Summaries.{pat_summary, seq_summary, alt_summary, star_summary, summary, ends_of}
 use Rattle.positions.specs.declared.summaries.Summary.{Summary}

@@ -1,8 +1,8 @@
 -- Document 01, "Past cases, proved together": the fourteen cases as one table of printed text. `cases-right` of proofs/CasesRight.antt proves the
 -- whole table of Appendix A; the same file computes the same answers by positions, and by the numbers that the code computes.
 -- Assumes nothing.
-use Rattle.std.specs.Prelude.{◌≡◌, Bool, true, false, ◌↔◌, ℕ, length}
-use mathlib.Core.List.{List, [], ◌∷◌, map, foldl}
+use Rattle.std.specs.Prelude.{◌≡◌, Bool, true, false, ◌↔◌, ℕ, length, List, [], ◌∷◌, map}
+use mathlib.Core.List.{foldl}
 use Rattle.std.proofs.Math.Option.{Option, none, some}
 use Prim.Native.String.{String}
 use Rattle.lexer.specs.Words.{same}

@@ -1,11 +1,8 @@
 -- A record made from its text is whole, and the records of a buffer, one after the other, are its bytes.
 -- Assumes nothing.
-use mathlib.Core.Path.{◌≡◌, refl, ap, ◌∙◌}
-use mathlib.Core.List.{List, [], ◌∷◌, ◌++◌, flatten}
-use Prim.Native.Nat.{ℕ, zero, suc, ◌*◌, ◌≤◌}
-use native.Mathlib.Omega.{arith}
-use lib.ListN.{length, take, drop, replicate, length-append, length-drop, length-replicate, take-append-drop}
-use lib.Seq.{length-take-le}
+use Rattle.std.proofs.Common.{◌≡◌, refl, ap, ◌∙◌, List, [], ◌∷◌, ◌++◌, ℕ, zero, suc, ◌*◌, ◌≤◌, arith, length, take, drop, replicate, length-append, length-drop, take-append-drop, length-take-le}
+use mathlib.Core.List.{flatten}
+use lib.ListN.{length-replicate}
 use Rattle.common.specs.Limits.{record_size}
 use Rattle.frame.specs.Record.{newline}
 use Rattle.frame.specs.Records.{record_of, records_of}

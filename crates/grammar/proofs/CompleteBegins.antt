@@ -1,13 +1,6 @@
 -- A spelled past begins with the first token of a factor: any, <, ( or [.
 -- Assumes nothing.
-use mathlib.Core.Path.{◌≡◌, refl, ap}
-use mathlib.Core.Bool.{Bool, true, false, cond}
-use mathlib.Core.List.{List, [], ◌∷◌, ◌++◌, append_assoc}
-use Prim.Native.Nat.{ℕ, ◌+◌, ◌<◌}
-use native.Mathlib.Omega.{arith}
-use lib.Dec.{eqb}
-use lib.ListN.{length, length-append}
-use borrow.Author.Tests.{eqb-true}
+use Rattle.std.proofs.Common.{◌≡◌, refl, ap, Bool, true, false, cond, List, [], ◌∷◌, ◌++◌, append_assoc, ℕ, ◌+◌, ◌<◌, arith, eqb, length, length-append, eqb-true}
 use Rattle.lexer.specs.Class.{among}
 use Rattle.lexer.specs.Tokens.{Token, word, mark, other}
 use Rattle.grammar.specs.Parsed.{none, some, mark_is}

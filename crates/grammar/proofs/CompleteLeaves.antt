@@ -1,11 +1,6 @@
 -- A reserved word, a name and a place are read back from their one token.
 -- Assumes nothing.
-use mathlib.Core.Path.{◌≡◌, refl}
-use mathlib.Core.List.{List, [], ◌∷◌}
-use Prim.Native.Nat.{ℕ, zero, suc, ◌+◌, ◌<◌, ◌≤◌}
-use lib.ListN.{get_or}
-use native.Mathlib.Omega.{arith}
-use borrow.Author.Tests.{eq-eqb}
+use Rattle.std.proofs.Common.{◌≡◌, refl, List, [], ◌∷◌, ℕ, zero, suc, ◌+◌, ◌<◌, ◌≤◌, get_or, arith, eq-eqb}
 use Rattle.lexer.specs.Class.{class_of}
 use Rattle.lexer.specs.Words.{kind_of, same, name_like, digit_kind, reserved}
 use Rattle.lexer.specs.Tokens.{Token, word}

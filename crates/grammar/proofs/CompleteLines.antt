@@ -1,11 +1,7 @@
 -- A text whose tokens spell a valid role line, rule line or event is read as just that.
 -- Assumes nothing.
-use mathlib.Core.Path.{◌≡◌, refl, ap, sym, ◌∙◌}
-use mathlib.Core.Bool.{false}
-use mathlib.Core.List.{List, [], ◌∷◌, ◌++◌, append_assoc, append-nil, map as map_list}
-use Prim.Native.Nat.{ℕ, zero, suc, ◌+◌, ◌*◌, ◌<◌, ◌≤◌}
-use native.Mathlib.Omega.{arith}
-use lib.ListN.{length, length-append}
+use Rattle.std.proofs.Common.{◌≡◌, refl, ap, sym, ◌∙◌, false, List, [], ◌∷◌, ◌++◌, append_assoc, append-nil, ℕ, zero, suc, ◌+◌, ◌*◌, ◌<◌, ◌≤◌, arith, length, length-append}
+use mathlib.Core.List.{map as map_list}
 use Rattle.lexer.specs.Tokens.{Token, word, mark, tokens}
 use Rattle.lexer.proofs.TokenLaws.{tokens-length}
 use Rattle.grammar.specs.Parsed.{some, mark_is, word_is}

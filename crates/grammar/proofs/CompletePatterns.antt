@@ -1,12 +1,6 @@
 -- Each valid item, condition and pattern is read back from the tokens that spell it.
 -- Assumes nothing.
-use mathlib.Core.Path.{◌≡◌, refl}
-use mathlib.Core.Bool.{false}
-use mathlib.Core.List.{List, [], ◌∷◌, ◌++◌, append_assoc}
-use Prim.Native.Nat.{ℕ, zero, suc, ◌+◌, ◌*◌, ◌<◌}
-use native.Mathlib.Omega.{arith}
-use lib.Dec.{eqb}
-use lib.ListN.{length, length-append}
+use Rattle.std.proofs.Common.{◌≡◌, refl, false, List, [], ◌∷◌, ◌++◌, append_assoc, ℕ, zero, suc, ◌+◌, ◌*◌, ◌<◌, arith, eqb, length, length-append}
 use Rattle.lexer.specs.Words.{any_w, or_w}
 use Rattle.lexer.specs.Tokens.{Token, word, mark}
 use Rattle.grammar.specs.Parsed.{none, some, mark_is, word_is}

@@ -1,9 +1,6 @@
 -- Each valid slot and response is read back from the tokens that spell it.
 -- Assumes nothing.
-use mathlib.Core.Path.{◌≡◌, refl}
-use native.Mathlib.Omega.{arith}
-use mathlib.Core.List.{List, [], ◌∷◌, ◌++◌, append_assoc}
-use Prim.Native.Nat.{ℕ, zero, suc}
+use Rattle.std.proofs.Common.{◌≡◌, refl, arith, List, [], ◌∷◌, ◌++◌, append_assoc, ℕ, zero, suc}
 use Rattle.lexer.specs.Tokens.{Token}
 use Rattle.grammar.specs.Parsed.{some, mark_is, word_is}
 use Rattle.grammar.specs.AsRead.{Slot, named, place, Response, pass, hold, send, anew}

@@ -1,13 +1,7 @@
 -- Which texts are in the rule language, and that each has one reading.
 -- Assumes nothing.
-use mathlib.Core.Path.{◌≡◌, refl, ap, sym, ◌∙◌}
-use mathlib.Core.Bool.{true}
-use mathlib.Core.List.{List, [], ◌∷◌, append-nil}
-use mathlib.Core.Logic.{◌↔◌}
+use Rattle.std.proofs.Common.{◌≡◌, refl, ap, sym, ◌∙◌, true, List, [], ◌∷◌, append-nil, ◌↔◌, ℕ, arith, length}
 use mathlib.Core.Option.{Option, none, some}
-use Prim.Native.Nat.{ℕ}
-use native.Mathlib.Omega.{arith}
-use lib.ListN.{length}
 use Rattle.lexer.specs.Class.{class_of}
 use Rattle.lexer.specs.Words.{kind_of, same, name_like, digit_kind}
 use Rattle.lexer.specs.Tokens.{Token, tokens}

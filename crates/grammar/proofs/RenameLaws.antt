@@ -1,6 +1,6 @@
 -- Other names leave the number of patterns as it is.
 -- Assumes nothing.
-use mathlib.Core.Path.{◌≡◌, refl}
+use Rattle.std.proofs.Common.{◌≡◌, refl}
 use Rattle.grammar.specs.Trees.{Past, only, either, Sequence, single, beside, Factor, starred, Base, pattern, nothing, group}
 use Rattle.grammar.specs.Rename.{map_past, map_sequence, map_factor, map_base}
 use Rattle.grammar.specs.Size.{size_past, size_sequence, size_factor, size_base}

@@ -1,12 +1,7 @@
 -- A line that some text says, written out again by its tokens: it is read as the same line, it is no longer than that text, and no byte of it is of class 0.
 -- Assumes nothing.
-use mathlib.Core.Path.{◌≡◌}
-use mathlib.Core.Bool.{true, false}
-use mathlib.Core.List.{List, [], ◌∷◌, ◌++◌}
+use Rattle.std.proofs.Common.{◌≡◌, true, false, List, [], ◌∷◌, ◌++◌, ℕ, zero, suc, ◌≤◌, arith, length, replicate}
 use mathlib.Core.Option.{some}
-use Prim.Native.Nat.{ℕ, zero, suc, ◌≤◌}
-use native.Mathlib.Omega.{arith}
-use lib.ListN.{length, replicate}
 use Rattle.common.specs.All.{All}
 use Rattle.common.proofs.AllLaws.{all_of, all_append, all_mapped}
 use Rattle.lexer.specs.Class.{all_classed}

@@ -1,12 +1,7 @@
 -- What each parser of lines gives is a line of its own kind.
 -- Assumes nothing.
-use mathlib.Core.Path.{◌≡◌, refl}
-use mathlib.Core.Bool.{true, false}
-use mathlib.Core.List.{List, [], ◌∷◌}
+use Rattle.std.proofs.Common.{◌≡◌, refl, true, false, List, [], ◌∷◌, ℕ, arith, length}
 use mathlib.Core.Option as option
-use Prim.Native.Nat.{ℕ}
-use native.Mathlib.Omega.{arith}
-use lib.ListN.{length}
 use Rattle.lexer.specs.Tokens.{Token, tokens}
 use Rattle.grammar.specs.AsRead.{Line, role, rule, event}
 use Rattle.grammar.specs.Parsed.{Parsed, none, some, map, bind, word_is, is_none, whole, wholly}

@@ -1,9 +1,7 @@
 -- What the parsers of role lines, rule lines and events give is valid and is spelled by the tokens that they read.
 -- Assumes nothing.
-use mathlib.Core.Path.{refl, ap, ◌∙◌}
-use mathlib.Core.List.{List, [], ◌∷◌, map as map_list}
-use Prim.Native.Nat.{ℕ, zero, suc}
-use native.Mathlib.Omega.{arith}
+use Rattle.std.proofs.Common.{refl, ap, ◌∙◌, List, [], ◌∷◌, ℕ, zero, suc, arith}
+use mathlib.Core.List.{map as map_list}
 use Rattle.lexer.specs.Words.{role_w, under_w, rule_w}
 use Rattle.lexer.specs.Tokens.{Token, word, mark}
 use Rattle.grammar.specs.AsRead.{Pattern, Response}

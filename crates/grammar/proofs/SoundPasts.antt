@@ -1,11 +1,6 @@
 -- What the parsers of pasts give is valid and is spelled by the tokens that they read.
 -- Assumes nothing.
-use mathlib.Core.Path.{◌≡◌, refl, ap, ◌∙◌}
-use mathlib.Core.Bool.{Bool, true, false, cond}
-use mathlib.Core.List.{List, [], ◌∷◌, ◌++◌}
-use Prim.Native.Nat.{ℕ, zero, suc}
-use lib.Dec.{eqb}
-use borrow.Author.Tests.{eqb-true}
+use Rattle.std.proofs.Common.{◌≡◌, refl, ap, ◌∙◌, Bool, true, false, cond, List, [], ◌∷◌, ◌++◌, ℕ, zero, suc, eqb, eqb-true}
 use Rattle.lexer.specs.Tokens.{Token, word, mark, other}
 use Rattle.grammar.specs.Parsed.{some, map}
 use Rattle.grammar.specs.AsRead.{only, single, beside, starred, nothing}

@@ -1,9 +1,6 @@
 -- What the parsers of items, conditions and patterns give is valid and is spelled by the tokens that they read.
 -- Assumes nothing.
-use mathlib.Core.Path.{◌∙◌}
-use mathlib.Core.List.{List, [], ◌∷◌}
-use Prim.Native.Nat.{ℕ, zero, suc}
-use native.Mathlib.Omega.{arith}
+use Rattle.std.proofs.Common.{◌∙◌, List, [], ◌∷◌, ℕ, zero, suc, arith}
 use Rattle.lexer.specs.Words.{not_w, or_w}
 use Rattle.lexer.specs.Tokens.{Token, word, mark}
 use Rattle.grammar.specs.AsRead.{close, term}

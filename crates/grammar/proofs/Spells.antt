@@ -1,8 +1,6 @@
 -- What it means that a parser gives what its tokens spell, and how that carries over where parsers are put together.
 -- Assumes nothing.
-use mathlib.Core.Path.{◌≡◌}
-use mathlib.Core.Bool.{Bool, true, false, cond}
-use mathlib.Core.List.{List, ◌++◌}
+use Rattle.std.proofs.Common.{◌≡◌, Bool, true, false, cond, List, ◌++◌}
 use Rattle.lexer.specs.Tokens.{Token}
 use Rattle.grammar.specs.Parsed.{Parsed, none, some, map, bind, choose}
 

@@ -1,7 +1,6 @@
 -- What a record asks, by its frame.
 -- Assumes nothing.
-use Rattle.std.proofs.Common.{◌≡◌, refl, sym, ap, ◌∙◌, subst, List, ℕ, ◌≤◌, Bool, true, false, cond, Ok, Err, arith, length, drop}
-use lib.ListN.{length-take}
+use Rattle.std.proofs.Common.{◌≡◌, refl, sym, ap, ◌∙◌, subst, List, ℕ, ◌≤◌, Bool, true, false, cond, Ok, Err, arith, length, drop, length-take}
 use Rattle.common.specs.Refusals.{refusal_number}
 use Rattle.common.specs.declared.refusals.Refusal.{Refusal}
 use Rattle.common.specs.declared.refusals.Refusal.TheVariants.{RecordLength, Malformed as MalformedRecord, NotDeclared, NotInLanguage}

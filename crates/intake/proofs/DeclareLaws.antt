@@ -1,7 +1,6 @@
 -- What becomes of a line, refused or taken, is what it asks.
 -- Assumes nothing.
-use mathlib.Core.Path.{◌≡◌, refl, sym, ap, ◌∙◌, subst}
-use Prim.Native.Nat.{ℕ}
+use Rattle.std.proofs.Common.{◌≡◌, refl, sym, ap, ◌∙◌, subst, ℕ}
 use Rattle.names.specs.Name.{packed}
 use Rattle.follow.specs.State.{refuse, taken}
 use Rattle.follow.specs.declared.state.State.{State}

@@ -1,10 +1,6 @@
 -- A fresh state represents the fresh machine.
 -- Assumes nothing.
-use mathlib.Core.Path.{◌≡◌, refl, sym, ap, subst}
-use Prim.Native.Nat.{ℕ, ◌<◌}
-use native.Mathlib.Omega.{arith}
-use lib.Dec.{eqb}
-use lib.ListN.{get_or}
+use Rattle.std.proofs.Common.{◌≡◌, refl, sym, ap, subst, ℕ, ◌<◌, arith, eqb, get_or}
 use Rattle.lexer.specs.Class.{class_of, wordy}
 use Rattle.lexer.specs.Words.{same, name_like, digit_kind, kind_of}
 use Rattle.lexer.proofs.SameLaws.{same_refl}

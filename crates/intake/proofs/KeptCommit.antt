@@ -1,10 +1,6 @@
 -- An event is committed: the state represents the machine whose positions have moved on.
 -- Assumes nothing.
-use mathlib.Core.Path.{◌≡◌, sym, ap, ◌∙◌, subst}
-use mathlib.Core.List.{List, [], ◌∷◌, map}
-use Prim.Native.Nat.{ℕ, zero, suc, ◌≤◌, ◌<◌}
-use native.Mathlib.Omega.{arith}
-use lib.ListN.{get_or}
+use Rattle.std.proofs.Common.{◌≡◌, sym, ap, ◌∙◌, subst, List, [], ◌∷◌, map, ℕ, zero, suc, ◌≤◌, ◌<◌, arith, get_or}
 use Rattle.common.specs.Limits.{max_rules}
 use Rattle.lexer.specs.Words.{same}
 use Rattle.grammar.specs.Trees as trees

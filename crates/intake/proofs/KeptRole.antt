@@ -1,16 +1,6 @@
 -- One role more: the state with the role added represents the machine with it added.
 -- Assumes nothing.
-use mathlib.Core.Path.{◌≡◌, refl, sym, ap, ap₂, ◌∙◌, subst}
-use mathlib.Core.Bool.{Bool, true, false}
-use mathlib.Core.Logic.{⊎_elim}
-use mathlib.Core.List.{List, [], ◌∷◌}
-use Prim.Native.Nat.{ℕ, zero, suc, ◌+◌, ◌<◌}
-use native.Mathlib.Numerals.{add-one}
-use native.Mathlib.Omega.{arith}
-use lib.Dec.{eqb}
-use lib.ListN.{length, get_or, length-set}
-use lib.Seq.{get_or-set_same, get_or-set_other}
-use borrow.Author.Tests.{eq-eqb, ne_eqb}
+use Rattle.std.proofs.Common.{◌≡◌, refl, sym, ap, ap₂, ◌∙◌, subst, Bool, true, false, ⊎_elim, List, [], ◌∷◌, ℕ, zero, suc, ◌+◌, ◌<◌, add-one, arith, eqb, length, get_or, length-set, get_or-set_same, get_or-set_other, eq-eqb, ne_eqb}
 use Rattle.common.specs.Limits.{max_roles}
 use Rattle.lexer.specs.Words.{same}
 use Rattle.common.proofs.Bools.{true_not_false, same_test}

@@ -1,12 +1,6 @@
 -- One rule more: the state with the rule added represents the machine with it added.
 -- Assumes nothing.
-use mathlib.Core.Path.{◌≡◌, sym, ◌∙◌, subst}
-use mathlib.Core.List.{List, [], ◌∷◌}
-use Prim.Native.Nat.{ℕ, zero, suc, ◌≤◌, ◌<◌}
-use native.Mathlib.Numerals.{add-one}
-use native.Mathlib.Omega.{arith}
-use lib.ListN.{length, set, get_or}
-use lib.Seq.{get_or-set_same, get_or-set_other}
+use Rattle.std.proofs.Common.{◌≡◌, sym, ◌∙◌, subst, List, [], ◌∷◌, ℕ, zero, suc, ◌≤◌, ◌<◌, add-one, arith, length, set, get_or, get_or-set_same, get_or-set_other}
 use Rattle.common.specs.Limits.{max_patterns, max_rules}
 use Rattle.grammar.specs.Rename.{map_past, map_pattern, map_response}
 use Rattle.grammar.specs.Names.{rule_names}

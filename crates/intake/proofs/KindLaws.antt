@@ -1,9 +1,6 @@
 -- What a record asks, by the kind that `ask` tells.
 -- Assumes nothing.
-use mathlib.Core.Path.{◌≡◌, refl}
-use mathlib.Core.List.{List}
-use Prim.Native.Nat.{ℕ}
-use native.Mathlib.Omega.{arith}
+use Rattle.std.proofs.Common.{◌≡◌, refl, List, ℕ, arith}
 use Rattle.grammar.specs.Lines.{read_line}
 use Rattle.frame.specs.Text.{text_of}
 use Rattle.frame.specs.Record.{frame_of}

@@ -1,15 +1,10 @@
 -- What becomes of a line, by its kind.
 -- Assumes nothing.
-use mathlib.Core.Path.{◌≡◌, refl, sym, subst}
-use mathlib.Core.Bool.{false}
-use mathlib.Core.List.{List}
 use mathlib.Core.Option.{Option, none, some}
-use Prim.Native.Nat.{ℕ, ◌≤◌}
-use lib.ListN.{length}
 use Rattle.common.proofs.Bools.{true_not_false}
 use Rattle.grammar.specs.AsRead.{Line, role, rule, event}
 use Rattle.grammar.specs.Lines.{read_line, kind_of_line}
-use Rattle.std.proofs.Common.{Some, None}
+use Rattle.std.proofs.Common.{Some, None, ◌≡◌, refl, sym, subst, false, List, ℕ, ◌≤◌, length}
 use Rattle.std.proofs.Common as std
 use Rattle.grammar.specs.declared.lines.LineKind.{LineKind}
 use Rattle.grammar.specs.declared.lines.LineKind.TheVariants.{Role, Rule}

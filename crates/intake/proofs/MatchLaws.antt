@@ -1,11 +1,6 @@
 -- A rule's past matches now by the state's numbers exactly where it does by the machine's.
 -- Assumes nothing.
-use mathlib.Core.Path.{◌≡◌, refl, sym, ap, ap₂, ◌∙◌}
-use mathlib.Core.Bool.{Bool, false, ◌&&◌}
-use Prim.Native.Nat.{ℕ, ◌<◌}
-use lib.Dec.{ltb}
-use lib.ListN.{get_or}
-use borrow.Author.Tests.{lt-ltb}
+use Rattle.std.proofs.Common.{◌≡◌, refl, sym, ap, ap₂, ◌∙◌, Bool, false, ◌&&◌, ℕ, ◌<◌, ltb, get_or, lt-ltb}
 use Rattle.common.specs.Limits.{max_rules}
 use Rattle.grammar.specs.Names.{rule_names, past_names}
 use Rattle.common.specs.All.{All}

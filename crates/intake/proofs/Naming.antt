@@ -1,15 +1,6 @@
 -- Names and ids of a state: a name is held exactly where its packed number stands in the table, and its id is the id of that name.
 -- Assumes nothing.
-use mathlib.Core.Path.{◌≡◌, refl, sym, ap, ◌∙◌}
-use mathlib.Core.Bool.{Bool, true, false}
-use mathlib.Core.Logic.{⊎_elim}
-use mathlib.Core.List.{List}
-use Prim.Native.Nat.{ℕ, zero, suc, ◌<◌}
-use native.Mathlib.Omega.{arith}
-use lib.Dec.{ltb}
-use lib.ListN.{length, get_or}
-use lib.Seq.{length-take-le, get_or-take}
-use borrow.Author.Tests.{lt-ltb, ltb-true, ltb-false}
+use Rattle.std.proofs.Common.{◌≡◌, refl, sym, ap, ◌∙◌, Bool, true, false, ⊎_elim, List, ℕ, zero, suc, ◌<◌, arith, ltb, length, get_or, length-take-le, get_or-take, lt-ltb, ltb-true, ltb-false}
 use Rattle.common.specs.Limits.{max_roles}
 use Rattle.lexer.specs.Words.{same}
 use Rattle.common.proofs.Bools.{or_left, or_right, or_cases, true_not_false, same_test}

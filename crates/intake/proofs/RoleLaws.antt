@@ -1,20 +1,13 @@
 -- What becomes of a role line is what it asks.
 -- Assumes nothing.
-use mathlib.Core.Path.{◌≡◌, refl, sym, ap, ◌∙◌, subst}
-use mathlib.Core.Bool.{Bool, true, false, not, ◌||◌}
-use mathlib.Core.List.{List}
 use mathlib.Core.Option.{some}
-use Prim.Native.Nat.{ℕ, ◌<◌}
-use lib.Dec.{ltb}
-use lib.ListN.{length}
-use borrow.Author.Tests.{ltb-true}
 use Rattle.common.specs.Limits.{max_roles}
 use Rattle.lexer.specs.Words.{same}
 use Rattle.common.proofs.Bools.{true_not_false}
 use Rattle.grammar.specs.AsRead.{role}
 use Rattle.grammar.specs.Lines.{Says}
 use Rattle.names.specs.Name.{packed}
-use Rattle.std.proofs.Common.{Option, unwrap_or, ◌≤◌, arith}
+use Rattle.std.proofs.Common.{Option, unwrap_or, ◌≤◌, arith, ◌≡◌, refl, sym, ap, ◌∙◌, subst, Bool, true, false, not, ◌||◌, List, ℕ, ◌<◌, ltb, length, ltb-true}
 use Rattle.names.specs.Place.{place, found}
 use Rattle.names.proofs.PlaceLaws.{found-below, found-place}
 use Rattle.code.specs.Lines.{role_line_of}

@@ -1,13 +1,7 @@
 -- What becomes of a rule line is what it asks.
 -- Assumes nothing.
-use mathlib.Core.Path.{◌≡◌, refl, sym, ap, ◌∙◌, subst}
-use mathlib.Core.Bool.{Bool, true, false, not}
-use mathlib.Core.List.{List}
+use Rattle.std.proofs.Common.{◌≡◌, refl, sym, ap, ◌∙◌, subst, Bool, true, false, not, List, ℕ, ◌≤◌, ◌<◌, leb, ltb, length, ltb-true, leb-true}
 use mathlib.Core.Option.{some}
-use Prim.Native.Nat.{ℕ, ◌≤◌, ◌<◌}
-use lib.Dec.{leb, ltb}
-use lib.ListN.{length}
-use borrow.Author.Tests.{ltb-true, leb-true}
 use Rattle.common.specs.Limits.{max_patterns, max_rules}
 use Rattle.lexer.specs.Words.{same}
 use Rattle.grammar.specs.AsRead.{Past, Pattern, Response, rule}

@@ -1,7 +1,6 @@
 -- The past of a rule that a sheet has is within the limit, by names as by ids.
 -- Assumes nothing.
-use mathlib.Core.Path.{sym, subst}
-use Prim.Native.Nat.{ℕ, ◌≤◌}
+use Rattle.std.proofs.Common.{sym, subst, ℕ, ◌≤◌}
 use Rattle.common.specs.Limits.{max_patterns}
 use Rattle.grammar.specs.AsRead.{Past}
 use Rattle.grammar.specs.Size.{size_past}

@@ -1,13 +1,7 @@
 -- The judge's answer by the number, the size of the list, and the list.
 -- Assumes nothing.
-use mathlib.Core.Path.{◌≡◌, refl, sym, ap, ◌∙◌, subst}
-use mathlib.Core.Bool.{true, false}
-use mathlib.Core.List.{List, [], ◌∷◌}
-use mathlib.Core.Logic.{⊎_elim}
+use Rattle.std.proofs.Common.{◌≡◌, refl, sym, ap, ◌∙◌, subst, true, false, List, [], ◌∷◌, ⊎_elim, ℕ, zero, suc, ◌/◌, ◌≤◌, ◌<◌, arith, length, take}
 use mathlib.Core.Option.{none, some}
-use Prim.Native.Nat.{ℕ, zero, suc, ◌/◌, ◌≤◌, ◌<◌}
-use native.Mathlib.Omega.{arith}
-use lib.ListN.{length, take}
 use Rattle.patterns.proofs.TableNames.{split}
 use Rattle.follow.specs.State as state
 use Rattle.follow.specs.declared.state.State.{State}

@@ -1,15 +1,6 @@
 -- The records of a buffer in turn: each says an event, or a first one is refused.
 -- Assumes nothing.
-use mathlib.Core.Path.{◌≡◌, ap, ◌∙◌, refl}
-use mathlib.Core.Bool.{true}
-use mathlib.Core.Logic.{◌⊎◌, inl, inr, ⊎_elim}
-use mathlib.Core.List.{List, [], ◌∷◌, ◌++◌}
-use Prim.Native.Nat.{ℕ, zero, suc, ◌*◌, ◌/◌, ◌%◌, ◌<◌}
-use native.Mathlib.Omega.{arith}
-use lib.Dec.{eqb, leb}
-use lib.ListN.{length, length-drop, drop}
-use lib.Seq.{length-take-le}
-use borrow.Author.Tests.{eqb-true, leb-true, eq-eqb, le-leb}
+use Rattle.std.proofs.Common.{◌≡◌, ap, ◌∙◌, refl, true, ◌⊎◌, inl, inr, ⊎_elim, List, [], ◌∷◌, ◌++◌, ℕ, zero, suc, ◌*◌, ◌/◌, ◌%◌, ◌<◌, arith, eqb, leb, length, length-drop, drop, length-take-le, eqb-true, leb-true, eq-eqb, le-leb}
 use Rattle.common.proofs.Bools.{and_left, and_right}
 use Rattle.grammar.specs.AsRead.{Past}
 use Rattle.frame.specs.Records.{records_of}

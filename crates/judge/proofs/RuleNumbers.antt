@@ -1,14 +1,9 @@
 -- The rule of a number.
 -- Assumes nothing.
-use mathlib.Core.Path.{◌≡◌, refl, sym, ap, ◌∙◌}
-use mathlib.Core.Bool.{Bool, true, false, cond}
-use mathlib.Core.List.{List, [], ◌∷◌}
+use Rattle.std.proofs.Common.{◌≡◌, refl, sym, ap, ◌∙◌, Bool, true, false, cond, List, [], ◌∷◌, ℕ, ◌≤◌, ◌<◌, arith, eqb, length, eqb-true, eq-eqb, ne_eqb}
 use mathlib.Core.Option.{Option, none, some}
-use Prim.Native.Nat.{ℕ, ◌≤◌, ◌<◌}
-use native.Mathlib.Omega.{arith}
-use lib.Dec.{eqb}
-use lib.ListN.{length, length-map}
-use borrow.Author.Tests.{eqb-true, eqb-false, eq-eqb, ne_eqb}
+use lib.ListN.{length-map}
+use borrow.Author.Tests.{eqb-false}
 use Rattle.intake.specs.Names.{Rule}
 use Rattle.intake.specs.Machine.{PositionRule}
 use Rattle.judge.specs.Judge.{rule_numbered}

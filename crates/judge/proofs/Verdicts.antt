@@ -1,9 +1,6 @@
 -- The judge says yes exactly when Appendix A does, of the events that the records say.
 -- Assumes nothing.
-use mathlib.Core.Path.{◌≡◌, refl, sym, ap, ◌∙◌}
-use mathlib.Core.Bool.{cond}
-use mathlib.Core.List.{List, [], ◌∷◌, ◌++◌}
-use Prim.Native.Nat.{ℕ}
+use Rattle.std.proofs.Common.{◌≡◌, refl, sym, ap, ◌∙◌, cond, List, [], ◌∷◌, ◌++◌, ℕ}
 use Rattle.lexer.specs.Words.{same}
 use Rattle.grammar.specs.AsRead.{Past}
 use Rattle.patterns.specs.Meets.{order_of, meets}

@@ -1,13 +1,6 @@
 -- A word of a reserved word's kind is that word.
 -- Assumes nothing.
-use mathlib.Core.Path.{◌≡◌, refl, ap, ap₂, ◌∙◌}
-use mathlib.Core.Bool.{Bool, true, false, cond, ◌&&◌}
-use mathlib.Core.List.{List, [], ◌∷◌}
-use Prim.Native.Nat.{ℕ, zero, suc, ◌+◌, ◌-◌, ◌<◌, ◌≤◌}
-use lib.ListN.{length, get_or}
-use native.Mathlib.Omega.{arith}
-use lib.Dec.{eqb, leb}
-use borrow.Author.Tests.{eqb-true, leb-true}
+use Rattle.std.proofs.Common.{◌≡◌, refl, ap, ap₂, ◌∙◌, Bool, true, false, cond, ◌&&◌, List, [], ◌∷◌, ℕ, zero, suc, ◌+◌, ◌-◌, ◌<◌, ◌≤◌, length, get_or, arith, eqb, leb, eqb-true, leb-true}
 use Rattle.lexer.specs.Class.{within}
 use Rattle.common.proofs.Bools.{and_left, and_right}
 use Rattle.lexer.specs.Words.{same, name_like, digit_kind, kind_of, reserved, place_from}

@@ -1,13 +1,7 @@
 -- Laws of tokens written out again: they are read as the same tokens, with or without padding; no text of the same tokens is shorter; and no byte of words and
 -- marks written out is of class 0.
 -- Assumes nothing.
-use mathlib.Core.Path.{◌≡◌, refl, ap, sym, ◌∙◌}
-use mathlib.Core.Bool.{Bool, true, false, cond}
-use mathlib.Core.List.{List, [], ◌∷◌, ◌++◌, append-nil, append_assoc}
-use Prim.Native.Nat.{ℕ, zero, suc, ◌+◌, ◌≤◌, zero-le}
-use native.Mathlib.Omega.{arith}
-use lib.ListN.{length, replicate, length-append}
-use borrow.Author.Tests.{eqb-true}
+use Rattle.std.proofs.Common.{◌≡◌, refl, ap, sym, ◌∙◌, Bool, true, false, cond, List, [], ◌∷◌, ◌++◌, append-nil, append_assoc, ℕ, zero, suc, ◌+◌, ◌≤◌, zero-le, arith, length, replicate, length-append, eqb-true}
 use Rattle.common.specs.All.{All}
 use Rattle.lexer.specs.Class.{class_of, wordy, spacey, marky, all_classed, Wordy}
 use Rattle.lexer.specs.Run.{run, after}

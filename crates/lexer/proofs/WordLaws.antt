@@ -1,9 +1,6 @@
 -- Which tokens a text can have; the words among them have only bytes of words.
 -- Assumes nothing.
-use mathlib.Core.Path.{◌≡◌, refl}
-use mathlib.Core.Bool.{Bool, true, false, cond}
-use mathlib.Core.List.{List, [], ◌∷◌}
-use Prim.Native.Nat.{ℕ}
+use Rattle.std.proofs.Common.{◌≡◌, refl, Bool, true, false, cond, List, [], ◌∷◌, ℕ}
 use Rattle.common.specs.All.{All}
 use Rattle.common.proofs.AllLaws.{all_map}
 use Rattle.lexer.specs.Class.{wordy, spacey, marky, Wordy}

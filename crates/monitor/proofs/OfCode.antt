@@ -2,13 +2,7 @@
 -- `handle`; and the state's own array holds the marks. A fresh monitor keeps the fresh book, and so on after any operations: that is said where all
 -- operations are known (stand, proofs/WholeSession.antt).
 -- Assumes nothing.
-use mathlib.Core.Path.{◌≡◌, refl, sym, subst, ◌∙◌}
-use mathlib.Core.Bool.{true}
-use mathlib.Core.Logic.{◌↔◌}
-use mathlib.Core.List.{List, [], ◌∷◌}
-use Prim.Native.Nat.{ℕ, zero, suc, ◌≤◌, ◌<◌}
-use native.Mathlib.Omega.{arith}
-use lib.ListN.{drop, get_or}
+use Rattle.std.proofs.Common.{◌≡◌, refl, sym, subst, ◌∙◌, true, ◌↔◌, List, [], ◌∷◌, ℕ, zero, suc, ◌≤◌, ◌<◌, arith, drop, get_or}
 use Rattle.lexer.specs.Words.{same}
 use Rattle.patterns.specs.Roles.{all_held}
 use Rattle.patterns.specs.Meets.{order_of}

@@ -1,7 +1,6 @@
 -- Single calls in turn, by what `handle` promises: the answers are those of the machine with positions, and the monitor left represents the machine left.
 -- Assumes nothing.
-use mathlib.Core.Path.{◌≡◌, sym}
-use mathlib.Core.List.{List}
+use Rattle.std.proofs.Common.{◌≡◌, sym, List}
 use Rattle.follow.specs.declared.state.State.{State}
 use Rattle.book.specs.Decide.{Call, Answer}
 use Rattle.book.specs.MachineSteps.{PositionMachine, machine_step}

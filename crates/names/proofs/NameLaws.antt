@@ -1,13 +1,7 @@
 -- Names are told apart by their packed numbers.
 -- Assumes nothing.
-use mathlib.Core.Path.{◌≡◌, refl}
-use mathlib.Core.Bool.{Bool, true, false, cond}
-use mathlib.Core.List.{List, [], ◌∷◌}
-use Prim.Native.Nat.{ℕ, zero, suc, ◌-◌, ◌<◌, ◌≤◌}
-use native.Mathlib.Omega.{arith}
-use lib.Dec.{leb, eqb}
-use lib.ListN.{length, get_or}
-use borrow.Author.Tests.{eqb-true, eqb-false, leb-true}
+use Rattle.std.proofs.Common.{◌≡◌, refl, Bool, true, false, cond, List, [], ◌∷◌, ℕ, zero, suc, ◌-◌, ◌<◌, ◌≤◌, arith, leb, eqb, length, get_or, eqb-true, leb-true}
+use borrow.Author.Tests.{eqb-false}
 use Rattle.lexer.specs.Class.{class_of, wordy, within, among, marks}
 use Rattle.lexer.specs.Words.{kind_of, name_like, digit_kind, name_k, reserved}
 use Rattle.common.proofs.Bools.{and_left, and_right}

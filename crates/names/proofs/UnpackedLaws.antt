@@ -1,12 +1,6 @@
 -- Laws of the bytes of a packed name: at most eight, and those of the name that was packed.
 -- Assumes nothing.
-use mathlib.Core.Path.{◌≡◌, refl, ap, ◌∙◌}
-use mathlib.Core.Bool.{Bool, cond, not}
-use mathlib.Core.List.{List, [], ◌∷◌}
-use Prim.Native.Nat.{ℕ, zero, suc, ◌<◌, ◌≤◌}
-use native.Mathlib.Omega.{arith}
-use lib.ListN.{length, get_or}
-use borrow.Author.Tests.{ne_eqb}
+use Rattle.std.proofs.Common.{◌≡◌, refl, ap, ◌∙◌, Bool, cond, not, List, [], ◌∷◌, ℕ, zero, suc, ◌<◌, ◌≤◌, arith, length, get_or, ne_eqb}
 use Rattle.lexer.specs.Run.{run}
 use Rattle.lexer.specs.Words.{kind_of, name_k}
 use Rattle.lexer.proofs.RunLaws.{run_length}

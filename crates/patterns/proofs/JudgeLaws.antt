@@ -1,9 +1,6 @@
 -- One function for a whole condition, and for one term of it or a pattern: each answer as the one or the other.
 -- Assumes nothing.
-use mathlib.Core.Path.{◌≡◌}
-use mathlib.Core.Bool.{Bool, true, false}
-use mathlib.Core.List.{List}
-use Prim.Native.Nat.{ℕ}
+use Rattle.std.proofs.Common.{◌≡◌, Bool, true, false, List, ℕ}
 use Rattle.common.proofs.Bools.{true_not_false}
 use Rattle.patterns.specs.Judged.{TermRead, ConditionRead, PatternRead, JudgeRead}
 use Rattle.patterns.specs.declared.judge.Judged.{Judged}

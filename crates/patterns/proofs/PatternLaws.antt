@@ -1,13 +1,6 @@
 -- What each way through a pattern shows.
 -- Assumes nothing.
-use mathlib.Core.Path.{◌≡◌, refl}
-use mathlib.Core.Bool.{Bool, true, false, cond}
-use mathlib.Core.List.{List, [], ◌∷◌, ◌++◌}
-use Prim.Native.Nat.{ℕ, ◌+◌, ◌≤◌}
-use native.Mathlib.Omega.{arith}
-use lib.Dec.{leb}
-use borrow.Author.Tests.{leb-true}
-use lib.ListN.{length, get_or, drop, length-append}
+use Rattle.std.proofs.Common.{◌≡◌, refl, Bool, true, false, cond, List, [], ◌∷◌, ◌++◌, ℕ, ◌+◌, ◌≤◌, arith, leb, leb-true, length, get_or, drop, length-append}
 use Rattle.grammar.specs.Trees.{any_event, items, Pattern, plain, bracketed}
 use Rattle.code.specs.Trees.{code_simple, code_condition, code_pattern}
 use Rattle.patterns.specs.Meets.{items_meet, meets}

@@ -1,9 +1,6 @@
 -- `is_below` decides `Below`, and a role that joins later changes nothing for those held before. For any names that `eq` compares rightly.
 -- Assumes nothing.
-use mathlib.Core.Path.{◌≡◌, refl, sym, ap, ◌∙◌, subst}
-use mathlib.Core.Bool.{Bool, true, false, cond, ◌||◌}
-use mathlib.Core.Logic.{◌↔◌, ⊎_elim}
-use mathlib.Core.List.{[], ◌∷◌}
+use Rattle.std.proofs.Common.{◌≡◌, refl, sym, ap, ◌∙◌, subst, Bool, true, false, cond, ◌||◌, ◌↔◌, ⊎_elim, [], ◌∷◌}
 use Rattle.common.proofs.Bools.{or_left, or_right, or_cases, not-true, true_not_false}
 use Rattle.patterns.specs.Roles.{Role, Roles, Has, has_first, has_later, Below, below_itself, below-parent, is_held, is_below, Grown, grown_fresh, grown_more}
 

@@ -1,9 +1,6 @@
 -- The names of a line that a text says are made of bytes of words, as the words of a text are.
 -- Assumes nothing.
-use mathlib.Core.Path.{subst}
-use mathlib.Core.Bool.{false}
-use mathlib.Core.List.{List, [], ◌∷◌, ◌++◌, map}
-use Prim.Native.Nat.{ℕ}
+use Rattle.std.proofs.Common.{subst, false, List, [], ◌∷◌, ◌++◌, map, ℕ}
 use Rattle.lexer.specs.Words.{or_w}
 use Rattle.lexer.specs.Tokens.{word, mark}
 use Rattle.lexer.specs.Class.{Wordy}

@@ -1,14 +1,6 @@
 -- The way up a table of parents, and that a role which joins later changes nothing for those before it.
 -- Assumes nothing.
-use mathlib.Core.Path.{◌≡◌, refl, ap}
-use mathlib.Core.Bool.{Bool, true, false, cond}
-use mathlib.Core.List.{List}
-use Prim.Native.Nat.{ℕ, zero, suc, ◌<◌, ◌≤◌}
-use native.Mathlib.Omega.{arith}
-use lib.Dec.{eqb, ltb}
-use lib.ListN.{length, get_or, set, length-set}
-use lib.Seq.{get_or-set_other}
-use borrow.Author.Tests.{ltb-true, lt-ltb, le-ltb, eq-eqb, ne_eqb}
+use Rattle.std.proofs.Common.{◌≡◌, refl, ap, Bool, true, false, cond, List, ℕ, zero, suc, ◌<◌, ◌≤◌, arith, eqb, ltb, length, get_or, set, length-set, get_or-set_other, ltb-true, lt-ltb, le-ltb, eq-eqb, ne_eqb}
 use Rattle.patterns.specs.Table.{up_to, below_in}
 
 cond_same : (b x y z : Bool) → (b ≡ true → x ≡ y) → cond b x z ≡ cond b y z

@@ -1,13 +1,6 @@
 -- What each way through a condition and its terms shows.
 -- Assumes nothing.
-use mathlib.Core.Path.{◌≡◌, refl, sym, ap, ◌∙◌}
-use mathlib.Core.Bool.{Bool, true, false, not, cond, ◌||◌}
-use mathlib.Core.List.{List, [], ◌∷◌, ◌++◌, append_assoc}
-use Prim.Native.Nat.{ℕ, ◌+◌, ◌≤◌}
-use native.Mathlib.Omega.{arith}
-use lib.Dec.{leb}
-use borrow.Author.Tests.{leb-true}
-use lib.ListN.{length, get_or, drop, length-append}
+use Rattle.std.proofs.Common.{◌≡◌, refl, sym, ap, ◌∙◌, Bool, true, false, not, cond, ◌||◌, List, [], ◌∷◌, ◌++◌, append_assoc, ℕ, ◌+◌, ◌≤◌, arith, leb, leb-true, length, get_or, drop, length-append}
 use Rattle.grammar.specs.Trees.{any_event, items, Condition, term, or, Term, negate, simple, inside}
 use Rattle.code.specs.Trees.{code_simple, code_condition, code_term}
 use Rattle.patterns.specs.Meets.{items_meet, term_meets, condition_meets}

@@ -1,10 +1,6 @@
 -- What numbers can stand first, last, and one after another: the rules by which the walk computes.
 -- Assumes nothing.
-use mathlib.Core.Path.{◌≡◌, refl, sym}
-use mathlib.Core.List.{List, [], ◌∷◌, ◌++◌, append_assoc, append-nil}
-use mathlib.Core.Logic.{◌⊎◌, inl, inr, ⊎_elim}
-use Prim.Native.Nat.{ℕ, suc, ◌+◌, ◌≤◌, ◌<◌}
-use native.Mathlib.Omega.{arith}
+use Rattle.std.proofs.Common.{◌≡◌, refl, sym, List, [], ◌∷◌, ◌++◌, append_assoc, append-nil, ◌⊎◌, inl, inr, ⊎_elim, ℕ, suc, ◌+◌, ◌≤◌, ◌<◌, arith}
 use Rattle.common.specs.All.{All}
 use Rattle.common.proofs.AllLaws.{all_append, all_map, all_at}
 use Rattle.positions.specs.Past.{Past, pat, empty, seq, alt, star}

@@ -1,11 +1,7 @@
 -- What the walk sets and answers, for any set of positions: exactly what C-12 says.
 -- Assumes nothing.
-use mathlib.Core.Path.{◌≡◌, refl}
-use mathlib.Core.Bool.{Bool, true, false}
+use Rattle.std.proofs.Common.{◌≡◌, refl, Bool, true, false, ◌↔◌, inl, inr, ⊎_elim, ℕ, eqb-true, eq-eqb}
 use mathlib.Core.Logic.Iff
-use mathlib.Core.Logic.{◌↔◌, inl, inr, ⊎_elim}
-use Prim.Native.Nat.{ℕ}
-use borrow.Author.Tests.{eqb-true, eq-eqb}
 use Rattle.positions.specs.Past.{Past}
 use Rattle.positions.specs.Numbers.{size}
 use Rattle.positions.specs.Positions.{Positions, MayEnd, Follows, Matched}

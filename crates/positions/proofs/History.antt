@@ -1,15 +1,8 @@
 -- Following a past by positions is right after any list of events: the positions are document 01's, and the past matches by them exactly where
 -- Appendix A says so.
 -- Assumes nothing.
-use mathlib.Core.Path.{◌≡◌, refl, sym}
-use mathlib.Core.Bool.{Bool, true}
-use mathlib.Core.List.{List, [], ◌∷◌, ◌++◌, append_assoc, append-nil}
+use Rattle.std.proofs.Common.{◌≡◌, refl, sym, Bool, true, List, [], ◌∷◌, ◌++◌, append_assoc, append-nil, ◌↔◌, inl, inr, ⊎_elim, ℕ, suc, ◌+◌, arith, eqb, eqb-true, eq-eqb}
 use mathlib.Core.Logic.Iff
-use mathlib.Core.Logic.{◌↔◌, inl, inr, ⊎_elim}
-use Prim.Native.Nat.{ℕ, suc, ◌+◌}
-use native.Mathlib.Omega.{arith}
-use lib.Dec.{eqb}
-use borrow.Author.Tests.{eqb-true, eq-eqb}
 use Rattle.positions.specs.Past.{Past, Sat, sat_pat, sat_empty, sat_seq, sat_left, sat_right, sat_stop, sat_more}
 use Rattle.positions.specs.Matcher.{matches}
 use Rattle.positions.specs.Numbers.{size, Allows, allow_pat, allow_empty, allow_seq, allow_left, allow_right, allow_stop, allow_more, Nullable, Begins, Ends, Before, met_at, Each, each_none, each_more}

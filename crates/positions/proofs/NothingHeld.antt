@@ -1,9 +1,6 @@
 -- Where no position is held, none is held after any event: a past that can no longer match needs no pass.
 -- Assumes nothing.
-use mathlib.Core.Path.{◌≡◌, refl, sym, ap}
-use mathlib.Core.Bool.{Bool, true, false, ◌&&◌}
-use Prim.Native.Nat.{ℕ}
-use lib.Bits.{bit_or}
+use Rattle.std.proofs.Common.{◌≡◌, refl, sym, ap, Bool, true, false, ◌&&◌, ℕ, bit_or}
 use Rattle.positions.specs.Past.{Past, pat, empty, seq, alt, star}
 use Rattle.positions.specs.Summaries.{pat_summary, seq_summary, alt_summary, star_summary, summary, step_of}
 use Rattle.positions.specs.declared.summaries.Summary.{Summary}

@@ -1,11 +1,7 @@
 -- The numbers that the code computes, put together with what they mean: they are document 01's marks after any list of events, they are C-12's
 -- for any set of positions, and the past matches by them exactly where Appendix A says so.
 -- Assumes nothing.
-use mathlib.Core.Path.{◌≡◌, ◌∙◌, sym}
-use mathlib.Core.Bool.{Bool, true}
-use mathlib.Core.List.{List, [], ◌∷◌, ◌++◌}
-use mathlib.Core.Logic.{◌↔◌}
-use Prim.Native.Nat.{ℕ, ◌≤◌}
+use Rattle.std.proofs.Common.{◌≡◌, ◌∙◌, sym, Bool, true, List, [], ◌∷◌, ◌++◌, ◌↔◌, ℕ, ◌≤◌}
 use Rattle.positions.specs.Past.{Past, Sat}
 use Rattle.positions.specs.Numbers.{size}
 use Rattle.positions.specs.Matcher.{matches}

@@ -1,16 +1,12 @@
 -- The laws of sets as numbers: what is in the empty set, in a set of one, in a union, in what two sets share.
 -- Assumes nothing.
-use mathlib.Core.Path.{◌≡◌, refl, sym, ap, ◌∙◌}
-use mathlib.Core.Bool.{Bool, true, false, not, ◌&&◌, ◌||◌, false≢true}
-use mathlib.Core.Logic.{◌↔◌}
-use Prim.Native.Nat.{ℕ, zero, suc, ◌+◌, ◌-◌, ◌*◌, ◌/◌, ◌%◌, ◌^◌, ◌<◌, ◌≤◌, max, min}
-use native.Mathlib.Nat.{one-mul, div-one, div-eq_of_lt, mod-lt, mul-mod_left, pow-suc}
-use native.Mathlib.Omega.{arith}
+use Rattle.std.proofs.Common.{◌≡◌, refl, sym, ap, ◌∙◌, Bool, true, false, not, ◌&&◌, ◌||◌, ◌↔◌, ℕ, zero, suc, ◌+◌, ◌-◌, ◌*◌, ◌/◌, ◌%◌, ◌^◌, ◌<◌, ◌≤◌, max, min, one-mul, div-one, mod-lt, pow-suc, arith, shl_exact, shr-shr, pow_mono, pow-add, pow_pos, bit_or, bit_and, eqb, ltb, ltb-true, ltb-false, lt-ltb, eqb-true, ne_eqb}
+use mathlib.Core.Bool.{false≢true}
+use native.Mathlib.Nat.{div-eq_of_lt, mul-mod_left}
 use lib.Arith.{digits_mod, lt_of_le-ne}
-use lib.Pow.{shl_exact, shl-shr, shr-shr, pow-lt, pow_mono, pow-add, pow_pos, split}
-use lib.Bits.{bit_or, bit_and, or_step, or_shr, and_step, and_shr}
-use lib.Dec.{eqb, ltb}
-use borrow.Author.Tests.{ltb-true, ltb-false, lt-ltb, eqb-true, eqb-false, ne_eqb, not-true}
+use lib.Pow.{shl-shr, pow-lt, split}
+use lib.Bits.{or_step, or_shr, and_step, and_shr}
+use borrow.Author.Tests.{eqb-false, not-true}
 use Rattle.positions.specs.Sets.{has_at, bit_of, only_if, shares}
 use Rattle.common.proofs.Bools.{and_both, and_left, and_right}
 

@@ -1,13 +1,6 @@
 -- Code written out: a keyword, the space between two words, and the loop of `tokens`.
 -- Assumes nothing.
-use mathlib.Core.Path.{◌≡◌, refl, ap, sym, ◌∙◌}
-use mathlib.Core.Bool.{Bool, true, false, ◌&&◌}
-use mathlib.Core.List.{List, [], ◌∷◌, ◌++◌, map, append_assoc, append-nil}
-use Prim.Native.Nat.{ℕ, ◌+◌, ◌<◌, ◌≤◌}
-use native.Mathlib.Numerals.{add-one}
-use native.Mathlib.Omega.{arith}
-use lib.ListN.{length, drop, get_or, drop_of_length-le}
-use lib.Seq.{drop-cons}
+use Rattle.std.proofs.Common.{◌≡◌, refl, ap, sym, ◌∙◌, Bool, true, false, ◌&&◌, List, [], ◌∷◌, ◌++◌, map, append_assoc, append-nil, ℕ, ◌+◌, ◌<◌, ◌≤◌, add-one, arith, length, drop, get_or, drop_of_length-le, drop-cons}
 use Rattle.lexer.specs.Render.{gap, render_from, render}
 use Rattle.columns.specs.Writing.{Writes}
 use Rattle.columns.proofs.WriteLaws.{writes_none, writes_then, writes_same}

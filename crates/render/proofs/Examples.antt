@@ -1,8 +1,6 @@
 -- Lines written out, computed: a rule's code as its text, and whole records.
 -- Assumes nothing.
-use mathlib.Core.Path.{◌≡◌, refl}
-use mathlib.Core.List.{List, [], ◌∷◌}
-use Prim.Native.Nat.{ℕ}
+use Rattle.std.proofs.Common.{◌≡◌, refl, List, [], ◌∷◌, ℕ}
 use Rattle.lexer.specs.Class.{class_of, wordy, spacey, marky}
 use Rattle.lexer.specs.Run.{run}
 use Rattle.lexer.specs.Tokens.{tokens_from, tokens}

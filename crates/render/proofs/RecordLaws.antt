@@ -1,10 +1,6 @@
 -- A line written over spaces, and the newline after it: the record of that line.
 -- Assumes nothing.
-use mathlib.Core.Path.{◌≡◌, refl, ap, sym, ◌∙◌}
-use mathlib.Core.List.{List, [], ◌∷◌, ◌++◌, append-nil, map}
-use Prim.Native.Nat.{ℕ, zero, suc}
-use native.Mathlib.Nat.{zero-add}
-use lib.ListN.{length, take, drop, set}
+use Rattle.std.proofs.Common.{◌≡◌, refl, ap, sym, ◌∙◌, List, [], ◌∷◌, ◌++◌, append-nil, map, ℕ, zero, suc, zero-add, length, take, drop, set}
 use Rattle.lexer.specs.Render.{render_from, render}
 use Rattle.names.specs.Unpacked.{unpacked}
 use Rattle.grammar.specs.AsRead.{role}

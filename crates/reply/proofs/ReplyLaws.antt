@@ -1,14 +1,8 @@
 -- Laws of the 50 bytes for those who read them: how many there are, and what stands in each column.
 -- Assumes nothing.
-use mathlib.Core.Path.{◌≡◌, refl, ap, sym, ◌∙◌}
-use mathlib.Core.Bool.{Bool, true, false}
-use mathlib.Core.List.{List, [], ◌∷◌, ◌++◌, map}
-use Prim.Native.Nat.{ℕ, zero, suc, ◌+◌, ◌-◌, ◌*◌, ◌/◌, ◌%◌, ◌<◌, ◌≤◌}
-use native.Mathlib.Omega.{arith}
-use lib.Dec.{ltb}
-use lib.ListN.{length, get_or, length-append, length-map, get_or-replicate, get_or-append}
-use lib.Seq.{get_or_at, get_or-append-add, ext_get_or}
-use borrow.Author.Tests.{ltb-true, ltb-false}
+use Rattle.std.proofs.Common.{◌≡◌, refl, ap, sym, ◌∙◌, Bool, true, false, List, [], ◌∷◌, ◌++◌, map, ℕ, zero, suc, ◌+◌, ◌-◌, ◌*◌, ◌/◌, ◌%◌, ◌<◌, ◌≤◌, arith, ltb, length, get_or, length-append, get_or-append-add, ext_get_or, ltb-true, ltb-false}
+use lib.ListN.{length-map, get_or-replicate, get_or-append}
+use lib.Seq.{get_or_at}
 use Rattle.names.specs.Unpacked.{unpacked}
 use Rattle.reply.specs.Reply.{padded, spaced, reply_bytes}
 use Rattle.reply.specs.Columns.{Columns}

@@ -1,14 +1,7 @@
 -- The four ways through a round, by what the functions promise that it calls.
 -- Assumes nothing.
-use mathlib.Core.Path.{◌≡◌, refl, sym, ap, ◌∙◌, subst}
-use mathlib.Core.Bool.{Bool, true, false, not}
-use mathlib.Core.List.{List, [], ◌++◌}
+use Rattle.std.proofs.Common.{◌≡◌, refl, sym, ap, ◌∙◌, subst, Bool, true, false, not, List, [], ◌++◌, ℕ, ◌*◌, ◌/◌, ◌≤◌, arith, eqb, length, take, drop, eqb-true, leb-true}
 use mathlib.Core.Option.{Option, none, some}
-use Prim.Native.Nat.{ℕ, ◌*◌, ◌/◌, ◌≤◌}
-use native.Mathlib.Omega.{arith}
-use lib.Dec.{eqb}
-use lib.ListN.{length, take, drop}
-use borrow.Author.Tests.{eqb-true, leb-true}
 use Rattle.common.proofs.Bools.{and_left, and_right, held_from, held-not}
 use Rattle.common.specs.Limits.{record_size}
 use Rattle.follow.specs.declared.state.State.{State}

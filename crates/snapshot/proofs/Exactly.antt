@@ -1,13 +1,7 @@
 -- What keeping and restoring promise, in C-12's words and exactly: of any monitor, and of one that represents a machine.
 -- Assumes nothing.
-use mathlib.Core.Path.{◌≡◌, refl, sym, ap, ◌∙◌, subst}
-use mathlib.Core.Logic.{◌↔◌}
-use mathlib.Core.List.{List, []}
+use Rattle.std.proofs.Common.{◌≡◌, refl, sym, ap, ◌∙◌, subst, ◌↔◌, List, [], ℕ, ◌*◌, ◌≤◌, arith, length, take, take_at}
 use mathlib.Core.Option.{Option, none, some}
-use Prim.Native.Nat.{ℕ, ◌*◌, ◌≤◌}
-use native.Mathlib.Omega.{arith}
-use lib.ListN.{length, take}
-use lib.Seq.{take_at}
 use Rattle.common.specs.Limits.{record_size, max_roles, max_rules}
 use Rattle.follow.specs.declared.state.State.{State}
 use Rattle.follow.proofs.CappedLaws.{capped_le}

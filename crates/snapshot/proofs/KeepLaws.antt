@@ -1,12 +1,7 @@
 -- Laws of keeping: how long an image is, and what a buffer that is long enough or too short comes to.
 -- Assumes nothing.
-use mathlib.Core.Path.{◌≡◌, refl, ap, ◌∙◌}
-use mathlib.Core.List.{List, ◌++◌}
-use Prim.Native.Nat.{ℕ, zero, suc, ◌+◌, ◌-◌, ◌*◌, ◌/◌, ◌<◌, ◌≤◌}
-use native.Mathlib.Omega.{arith}
-use lib.ListN.{length, drop, length-append}
-use lib.Seq.{take_all}
-use borrow.Author.Tests.{le-leb, lt-leb}
+use Rattle.std.proofs.Common.{◌≡◌, refl, ap, ◌∙◌, List, ◌++◌, ℕ, zero, suc, ◌+◌, ◌-◌, ◌*◌, ◌/◌, ◌<◌, ◌≤◌, arith, length, drop, length-append, take_all, le-leb}
+use borrow.Author.Tests.{lt-leb}
 use Rattle.columns.specs.Writing.{fitting, laid, Writes}
 use Rattle.render.proofs.ReadBack.{record_length}
 use Rattle.book.specs.Images.{mark_record}

@@ -1,14 +1,7 @@
 -- Laws of one line of an image: what declaring it gives is what taking it gives, where a role line stands before every rule line.
 -- Assumes nothing.
-use mathlib.Core.Path.{◌≡◌, refl, sym, ap, ◌∙◌, subst}
-use mathlib.Core.Bool.{Bool, true, false}
-use mathlib.Core.List.{List}
+use Rattle.std.proofs.Common.{◌≡◌, refl, sym, ap, ◌∙◌, subst, Bool, true, false, List, ℕ, ◌≤◌, arith, leb, ltb, length, eq-eqb, ne_eqb}
 use mathlib.Core.Option.{Option, none, some}
-use Prim.Native.Nat.{ℕ, ◌≤◌}
-use native.Mathlib.Omega.{arith}
-use lib.Dec.{leb, ltb}
-use lib.ListN.{length}
-use borrow.Author.Tests.{eq-eqb, ne_eqb}
 use Rattle.common.specs.Limits.{max_patterns, max_roles, max_rules}
 use Rattle.lexer.specs.Words.{same}
 use Rattle.grammar.specs.AsRead.{Line, role, rule, event}

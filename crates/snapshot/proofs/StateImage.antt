@@ -1,10 +1,7 @@
 -- The image of a state that represents a machine is that machine's.
 -- Assumes nothing.
-use mathlib.Core.Path.{◌≡◌, refl, sym, ap, ap₂, ◌∙◌}
-use mathlib.Core.List.{List, [], ◌∷◌, ◌++◌, map, map-append, append_assoc, append-nil}
-use Prim.Native.Nat.{ℕ, zero, suc, ◌-◌}
-use native.Mathlib.Omega.{arith}
-use lib.ListN.{length, drop, get_or}
+use Rattle.std.proofs.Common.{◌≡◌, refl, sym, ap, ap₂, ◌∙◌, List, [], ◌∷◌, ◌++◌, map, append_assoc, append-nil, ℕ, zero, suc, ◌-◌, arith, length, drop, get_or}
+use mathlib.Core.List.{map-append}
 use lib.Seq.{drop-append-le}
 use Rattle.common.specs.Limits.{max_rules}
 use Rattle.names.specs.Unpacked.{unpacked}

@@ -10,13 +10,7 @@
 -- and the batch t: of the answer a, the number and the reply buffer, and of h', what the host holds afterwards. `HostSession h ts xs h'` is such calls in turn, each with what
 -- the one before left.
 -- Assumes nothing.
-use mathlib.Core.Path.{◌≡◌, refl, sym, ap, ◌∙◌, subst}
-use mathlib.Core.Bool.{true}
-use mathlib.Core.List.{List, ◌∷◌, ◌++◌}
-use mathlib.Core.Logic.{◌↔◌}
-use Prim.Native.Nat.{ℕ, ◌*◌, ◌≤◌, ◌<◌}
-use native.Mathlib.Omega.{arith}
-use lib.ListN.{length, take, drop}
+use Rattle.std.proofs.Common.{◌≡◌, refl, sym, ap, ◌∙◌, subst, true, List, ◌∷◌, ◌++◌, ◌↔◌, ℕ, ◌*◌, ◌≤◌, ◌<◌, arith, length, take, drop}
 use Rattle.common.specs.All.{All}
 use Rattle.common.specs.Limits.{reply_size, record_size}
 use Rattle.lexer.specs.Words.{same}

@@ -1,10 +1,6 @@
 -- Every list of operations can be handed over: there are kinds, sizes and buffers that hold just these operations.
 -- Assumes nothing.
-use mathlib.Core.Path.{◌≡◌, refl, sym, ap, ap₂, ◌∙◌}
-use mathlib.Core.Bool.{true}
-use mathlib.Core.List.{List, [], ◌∷◌, ◌++◌, map}
-use Prim.Native.Nat.{ℕ, suc, ◌+◌}
-use lib.ListN.{length, drop, length-append}
+use Rattle.std.proofs.Common.{◌≡◌, refl, sym, ap, ap₂, ◌∙◌, true, List, [], ◌∷◌, ◌++◌, map, ℕ, suc, ◌+◌, length, drop, length-append}
 use lib.Seq.{take-append_seam, drop-append_seam}
 use Rattle.book.specs.Operations.{Operation, call, batch, keep, restore}
 use Rattle.stand.specs.Calls.{total}

@@ -1,9 +1,6 @@
 -- Demand 3 as a host sees it that holds the monitor as an image: calls of `stand_run` in turn, known by what it promises and nothing else. Document 02, C-13.
 -- Assumes nothing.
-use mathlib.Core.Path.{◌≡◌, refl, sym, ap, ◌∙◌}
-use mathlib.Core.List.{List, [], ◌∷◌}
-use Prim.Native.Nat.{ℕ, ◌+◌, ◌*◌, ◌/◌, ◌%◌, ◌<◌}
-use native.Mathlib.Omega.{arith}
+use Rattle.std.proofs.Common.{◌≡◌, refl, sym, ap, ◌∙◌, List, [], ◌∷◌, ℕ, ◌+◌, ◌*◌, ◌/◌, ◌%◌, ◌<◌, arith}
 use Rattle.book.specs.Decide.{Answer}
 use Rattle.book.specs.Book.{Book}
 use Rattle.book.specs.Session.{answers, left, run_end, run_step}

@@ -1,8 +1,7 @@
 -- Kinds of operations, and what a host that names none hands over.
 -- Assumes nothing.
-use Rattle.std.proofs.Common.{◌≡◌, Result, Ok, Err, Bool, true, false, not, ◌&&◌, ℕ, zero, suc, ◌+◌, ◌≤◌, ◌<◌, List, [], ◌∷◌, ◌++◌, map, length, take, drop, get_or, eqb, leb, refl, sym, ap, ◌∙◌, subst, arith, is_err}
-use lib.ListN.{drop_of_length-le}
-use borrow.Author.Tests.{eqb-true, eq-eqb, ne_eqb, lt-leb, not-true, not-false}
+use Rattle.std.proofs.Common.{◌≡◌, Result, Ok, Err, Bool, true, false, not, ◌&&◌, ℕ, zero, suc, ◌+◌, ◌≤◌, ◌<◌, List, [], ◌∷◌, ◌++◌, map, length, take, drop, get_or, eqb, leb, refl, sym, ap, ◌∙◌, subst, arith, is_err, drop_of_length-le, eqb-true, eq-eqb, ne_eqb}
+use borrow.Author.Tests.{lt-leb, not-true, not-false}
 use Rattle.common.proofs.Bools.{and_left, and_right, and_both, true_not_false}
 use Rattle.follow.specs.declared.state.State.{State}
 use Rattle.book.specs.Decide.{Answer}

@@ -1,11 +1,6 @@
 -- A session worked operation by operation, over the buffers of a host.
 -- Assumes nothing.
-use mathlib.Core.Path.{◌≡◌, refl, sym, ap, ap₂, ◌∙◌, subst}
-use mathlib.Core.List.{List, [], ◌∷◌, ◌++◌, map, append_assoc, append-nil}
-use Prim.Native.Nat.{ℕ, ◌+◌, ◌-◌, ◌≤◌, ◌<◌}
-use native.Mathlib.Omega.{arith}
-use lib.ListN.{length, take, drop, get_or, set, length-append, length-set, length-drop, drop_of_length-le}
-use lib.Seq.{length-take-le, drop-drop, get_or-drop}
+use Rattle.std.proofs.Common.{◌≡◌, refl, sym, ap, ap₂, ◌∙◌, subst, List, [], ◌∷◌, ◌++◌, map, append_assoc, append-nil, ℕ, ◌+◌, ◌-◌, ◌≤◌, ◌<◌, arith, length, take, drop, get_or, set, length-append, length-set, length-drop, drop_of_length-le, length-take-le, drop-drop, get_or-drop}
 use borrow.Rule.Slice.PartMut.{put_mid}
 use Rattle.follow.specs.declared.state.State.{State}
 use Rattle.book.specs.Session.{run_end}

@@ -1,8 +1,7 @@
 -- The monitor that a sheet leaves.
 -- Assumes nothing.
-use Rattle.std.proofs.Common.{◌≡◌, Bool, ℕ, zero, suc, ◌+◌, ◌*◌, ◌/◌, ◌%◌, ◌≤◌, ◌<◌, List, ◌++◌, map, length, take, drop, refl, sym, ap, ap₂, ◌∙◌, subst, arith, length-append, Result}
+use Rattle.std.proofs.Common.{◌≡◌, Bool, ℕ, zero, suc, ◌+◌, ◌*◌, ◌/◌, ◌%◌, ◌≤◌, ◌<◌, List, ◌++◌, map, length, take, drop, refl, sym, ap, ap₂, ◌∙◌, subst, arith, length-append, Result, eq-eqb, ne_eqb}
 use Rattle.std.proofs.Math.Seq.{take-append_seam, drop-append_seam}
-use borrow.Author.Tests.{eq-eqb, ne_eqb}
 use Rattle.common.specs.declared.refusals.Refusal.{Refusal}
 use Rattle.frame.specs.Records.{records_of}
 use Rattle.follow.specs.declared.state.State.{State}

@@ -1,14 +1,6 @@
 -- Sizes that add up to a length, and whether all fit.
 -- Assumes nothing.
-use mathlib.Core.Path.{◌≡◌, ap}
-use mathlib.Core.Bool.{true}
-use mathlib.Core.List.{List, ◌∷◌}
-use Prim.Native.Nat.{ℕ, ◌+◌, ◌≤◌, ◌<◌}
-use native.Mathlib.Numerals.{add-one}
-use lib.Dec.{eqb}
-use lib.ListN.{length, drop, get_or, drop_of_length-le}
-use lib.Seq.{drop-cons}
-use borrow.Author.Tests.{eqb-true, eq-eqb}
+use Rattle.std.proofs.Common.{◌≡◌, ap, true, List, ◌∷◌, ℕ, ◌+◌, ◌≤◌, ◌<◌, add-one, eqb, length, drop, get_or, drop_of_length-le, drop-cons, eqb-true, eq-eqb}
 use Rattle.common.proofs.Bools.{and_left, and_right, and_both}
 use Rattle.stand.specs.Calls.{total, Fit, all_fit}
 

@@ -1,6 +1,6 @@
 -- The definitions give the lines of specs/Examples.antt, computed.
 -- Assumes nothing.
-use mathlib.Core.Path.{refl}
+use Rattle.std.proofs.Common.{refl}
 use Rattle.lexer.specs.Class.{class_of, wordy, spacey, marky, all_classed}
 use Rattle.lexer.specs.Run.{run}
 use Rattle.lexer.specs.Words.{kind_of, same, name_like, digit_kind}

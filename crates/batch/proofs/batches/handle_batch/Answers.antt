@@ -1,7 +1,6 @@
 -- `handle_batch` makes the single calls of a batch in turn: `Progress` holds before each. The measure is the bytes left.
 -- Assumes nothing.
-use mathlib.Core.Path.{sym, ◌∙◌}
-use native.Mathlib.Omega.{arith}
+use Rattle.std.proofs.Common.{sym, ◌∙◌, arith}
 use Rattle.batch.proofs.BatchLaws.{begun, record_there, room_there, room_same, called, finished, turned_away}
 use Rattle.batch.proofs.batches.handle_batch.Goals as goal
 

@@ -1,7 +1,4 @@
-use mathlib.Core.Path.{◌≡◌}
-use mathlib.Core.Bool.{true}
-use Prim.Native.Nat.{◌-◌}
-use lib.ListN.{length}
+use Rattle.std.proofs.Common.{◌≡◌, true, ◌-◌, length}
 use Rattle.book.specs.Batches.{batch_fits}
 use Rattle.batch.proofs.BatchLaws.{Progress}
 use Rattle.batch.proofs.batches.handle_batch.Given as goal

@@ -1,6 +1,6 @@
 -- `blank` meets its contract: spaces up to the column, or to the end of the buffer.
 -- Assumes nothing.
-use borrow.Author.Rules.{rules}
+use Rattle.std.proofs.Common.{rules}
 use Rattle.columns.proofs.BlankLaws.{writes_spaces, writes_no_spaces}
 use Rattle.columns.proofs.bytes.blank.Goals as goal
 

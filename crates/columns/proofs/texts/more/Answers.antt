@@ -1,10 +1,6 @@
 -- `more` meets its contract: the names before i are written. What falls is the names left.
 -- Assumes nothing.
-use mathlib.Core.Path.{ap}
-use mathlib.Core.List.{List, map}
-use Prim.Native.Nat.{ℕ}
-use native.Mathlib.Omega.{arith}
-use lib.Seq.{take_all}
+use Rattle.std.proofs.Common.{ap, List, map, ℕ, arith, take_all}
 use Rattle.names.specs.Unpacked.{unpacked}
 use Rattle.columns.specs.Texts.{before}
 use Rattle.columns.proofs.WriteLaws.{writes_none, writes_same, writes_length}

@@ -1,6 +1,4 @@
-use mathlib.Core.List.{map}
-use Prim.Native.Nat.{◌≤◌}
-use lib.ListN.{length, take}
+use Rattle.std.proofs.Common.{map, ◌≤◌, length, take}
 use Rattle.names.specs.Unpacked.{unpacked}
 use Rattle.columns.specs.Texts.{before}
 use Rattle.columns.specs.Writing.{Writes}

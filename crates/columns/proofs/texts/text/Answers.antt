@@ -1,8 +1,6 @@
 -- `text` meets its contract: what fits of the bytes is copied.
 -- Assumes nothing.
-use Rattle.std.proofs.Common.{◌≡◌, ◌+◌, ◌-◌}
-use borrow.Author.Rules.{rules}
-use native.Mathlib.Omega.{arith}
+use Rattle.std.proofs.Common.{◌≡◌, ◌+◌, ◌-◌, rules, arith}
 use Rattle.columns.proofs.WriteLaws.{writes_copied, writes_uncopied}
 use Rattle.columns.proofs.texts.text.Goals as goal
 

@@ -1,6 +1,6 @@
 -- `words` meets its contract: the first name, and the others with a space before each.
 -- Assumes nothing.
-use borrow.Author.Rules.{rules}
+use Rattle.std.proofs.Common.{rules}
 use Rattle.columns.proofs.WordLaws.{writes_spaced, spaced-none}
 use Rattle.columns.proofs.texts.words.Goals as goal
 

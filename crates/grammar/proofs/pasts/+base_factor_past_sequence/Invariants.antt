@@ -1,5 +1,4 @@
-use lib.ListN.{length}
-use Prim.Native.Nat.{◌+◌, ◌*◌}
+use Rattle.std.proofs.Common.{length, ◌+◌, ◌*◌}
 use Rattle.grammar.proofs.pasts.+base_factor_past_sequence.Given as goal
 
 abbrev pub decreases-base : goal.decreases-base

@@ -1,4 +1,4 @@
-use lib.ListN.{length}
+use Rattle.std.proofs.Common.{length}
 use Rattle.grammar.proofs.pasts.+stars.Given as goal
 
 abbrev pub decreases-stars : goal.decreases-stars

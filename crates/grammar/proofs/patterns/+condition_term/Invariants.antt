@@ -1,5 +1,4 @@
-use lib.ListN.{length}
-use Prim.Native.Nat.{◌+◌, ◌*◌}
+use Rattle.std.proofs.Common.{length, ◌+◌, ◌*◌}
 use Rattle.grammar.proofs.patterns.+condition_term.Given as goal
 
 abbrev pub decreases-condition : goal.decreases-condition

@@ -1,5 +1,5 @@
+use Rattle.std.proofs.Common.{rules}
 use Rattle.lexer.proofs.ClassTable.{class_at}
-use borrow.Author.Rules.{rules}
 use Rattle.lexer.proofs.classes.class_of.Goals as goal
 
 pub returns : goal.returns

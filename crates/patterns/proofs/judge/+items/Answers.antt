@@ -1,6 +1,6 @@
 -- `items` meets its contract: a law of ItemLaws for each way out. What falls is the code left.
 -- Assumes nothing.
-use borrow.Author.Rules.{rules}
+use Rattle.std.proofs.Common.{rules}
 use Rattle.patterns.proofs.ItemLaws.{no_items, closed, starred, short, unders, sames}
 use Rattle.patterns.proofs.judge.+items.Goals as goal
 

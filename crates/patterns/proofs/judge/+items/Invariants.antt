@@ -1,5 +1,4 @@
-use Prim.Native.Nat.{◌-◌}
-use lib.ListN.{length}
+use Rattle.std.proofs.Common.{◌-◌, length}
 use Rattle.patterns.proofs.judge.+items.Given as goal
 
 abbrev pub decreases-items : goal.decreases-items

@@ -1,7 +1,6 @@
 -- `judge` meets its contract: a law of TermLaws, and one of PatternLaws, for each way out. What falls is the code left, and then whole.
 -- Assumes nothing.
-use Rattle.std.proofs.Common.{refl}
-use borrow.Author.Rules.{rules}
+use Rattle.std.proofs.Common.{refl, rules}
 use Rattle.patterns.proofs.JudgeLaws.{as_condition, as_term}
 use Rattle.patterns.proofs.PatternLaws.{no-pattern, not-pattern, any_pattern, list-pattern, bracket_pattern}
 use Rattle.patterns.proofs.TermLaws.{no-term, not-term, any_term, list-term, bracket_term, last-cond, end-cond, or-cond}

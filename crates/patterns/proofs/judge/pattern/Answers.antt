@@ -1,6 +1,6 @@
 -- `pattern` meets its contract: a law of PatternLaws for each way out, and else it is read as a term is.
 -- Assumes nothing.
-use borrow.Author.Rules.{rules}
+use Rattle.std.proofs.Common.{rules}
 use Rattle.patterns.proofs.PatternLaws.{no-pattern, any_pattern, list-pattern}
 use Rattle.patterns.proofs.judge.pattern.Goals as goal
 

@@ -1,8 +1,6 @@
 -- `below` meets its contract: going up keeps the answer, and what falls is the role.
 -- Assumes nothing.
-use Rattle.std.proofs.Common.{◌≡◌, sym, ◌∙◌}
-use lib.ListN.{get_or}
-use borrow.Author.Rules.{rules}
+use Rattle.std.proofs.Common.{◌≡◌, sym, ◌∙◌, get_or, rules}
 use Rattle.patterns.proofs.TableLaws.{here, out, stop, up}
 use Rattle.patterns.proofs.roles.below.Goals as goal
 

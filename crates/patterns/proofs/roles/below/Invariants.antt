@@ -1,5 +1,4 @@
-use mathlib.Core.Path.{◌≡◌}
-use Prim.Native.Nat.{◌<◌}
+use Rattle.std.proofs.Common.{◌≡◌, ◌<◌}
 use Rattle.patterns.specs.Table.{below_in}
 use Rattle.patterns.proofs.roles.below.Given as goal
 

@@ -1,6 +1,4 @@
-use Rattle.std.proofs.Common.{sym}
-use native.Mathlib.Omega.{arith}
-use borrow.Author.Tests.{le-ltb}
+use Rattle.std.proofs.Common.{sym, arith, le-ltb}
 use Rattle.positions.proofs.SetLaws.{has_above}
 use Rattle.positions.proofs.sets.has.Goals as goal
 

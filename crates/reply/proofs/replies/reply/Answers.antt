@@ -1,8 +1,6 @@
 -- `reply` meets its contract.
 -- Assumes nothing.
-use Rattle.std.proofs.Common.{ℕ, map, length, ap, ◌∙◌}
-use native.Mathlib.Omega.{arith}
-use borrow.Author.Tests.{eq-eqb}
+use Rattle.std.proofs.Common.{ℕ, map, length, ap, ◌∙◌, arith, eq-eqb}
 use Rattle.names.specs.Unpacked.{unpacked}
 use Rattle.reply.specs.Reply.{spaced, reply_bytes}
 use Rattle.reply.proofs.WholeLaws.{reply-written}

@@ -1,8 +1,6 @@
 -- `put_digits` meets its contract: the digits before the last, and the last. What falls is the digits left.
 -- Assumes nothing.
-use mathlib.Core.Path.{sym, ap, ◌∙◌}
-use mathlib.Core.List.{[], ◌∷◌, ◌++◌}
-use Prim.Native.Nat.{ℕ, ◌-◌, ◌/◌}
+use Rattle.std.proofs.Common.{sym, ap, ◌∙◌, [], ◌∷◌, ◌++◌, ℕ, ◌-◌, ◌/◌}
 use Rattle.columns.proofs.WriteLaws.{writes_none, writes_then, writes_same}
 use Rattle.book.specs.Images.{hex_of}
 use Rattle.snapshot.proofs.DigitLaws.{hex_none, hex_last}

@@ -1,5 +1,5 @@
+use Rattle.std.proofs.Common.{rules}
 use Rattle.positions.specs.Summaries.{seq_summary}
-use borrow.Author.Rules.{rules}
 use Rattle.positions.proofs.summaries.Summary.in_order.Goals as goal
 
 pub returns : goal.returns

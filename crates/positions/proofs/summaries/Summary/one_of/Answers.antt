@@ -1,5 +1,5 @@
+use Rattle.std.proofs.Common.{rules}
 use Rattle.positions.specs.Summaries.{alt_summary}
-use borrow.Author.Rules.{rules}
 use Rattle.positions.proofs.summaries.Summary.one_of.Goals as goal
 
 pub returns : goal.returns
