@@ -3,9 +3,7 @@
 // Every function takes any arguments.
 #![tactic(auto)]
 
-pub mod bytes;
 pub mod refusals;
 pub mod sizes;
 
-pub use bytes::wide;
 pub use refusals::{Refusal, answer_number};

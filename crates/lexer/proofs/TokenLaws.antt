@@ -1,6 +1,6 @@
 -- Laws of the tokens of a text, and of the last n elements of a list.
 -- Assumes nothing.
-use Rattle.std.proofs.Common.{◌≡◌, refl, ap, sym, ◌∙◌, Bool, true, false, cond, List, [], ◌∷◌, ℕ, suc, ◌+◌, ◌-◌, ◌≤◌, zero-le, arith, length, take, drop, length-drop, drop-drop, take_all, eqb-true}
+use Rattle.std.proofs.Common.{◌≡◌, refl, ap, sym, ◌∙◌, Bool, true, false, cond, List, [], ◌∷◌, ℕ, suc, ◌+◌, ◌-◌, ◌≤◌, zero-le, arith, length, drop, length-drop, drop-drop, eqb-true}
 use native.Mathlib.Nat.{sub_self}
 use Rattle.lexer.specs.Class.{class_of, wordy, spacey, marky}
 use Rattle.lexer.specs.Run.{run, after}
@@ -80,10 +80,6 @@ unfolding last
 last-last n m s h h₂ =
     let q : length s - m + (length s - (length s - m) - n) ≡ length s - n = omega arith in
     rw (length-drop, drop-drop) (ap (λ (j : ℕ). drop j s) q)
-
-pub part_last : (n : ℕ) (s : List ℕ) → take (length s - (length s - n)) (drop (length s - n) s) ≡ last n s
-unfolding last
-part_last n s = take_all (length s - (length s - n)) (drop (length s - n) s) (simp length-drop (omega arith))
 
 -- there are no more tokens than bytes
 pub tokens-length : (i : Bool) (s : List ℕ) → length (tokens_from i s) ≤ length s

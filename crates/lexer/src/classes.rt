@@ -19,7 +19,7 @@ pub static CLASSES: [u8; 256] = [
 pub fn class_of(b: u8) -> u8
     ensures { result ≡ class_of b }
 {
-    CLASSES[b as usize]
+    CLASSES[usize::from(b)]
 }
 
 // Whether the bytes of a class stand in words: 2, 3 and 4.

@@ -1,6 +1,4 @@
 // The first token of a text, and what is left after it.
-ghost use Rattle.std.specs.Prelude.{◌≡◌};
-ghost use Rattle.lexer.specs.Tokens.{last};
 ghost use Rattle.lexer.specs.First.{FirstToken};
 
 use crate::classes::class_of;
@@ -12,13 +10,6 @@ pub enum Lexeme<'a> {
     Word(WordKind, &'a [u8]),
     Mark(u8),
     Other(u8),
-}
-
-// The last n bytes of a text, as a part of it; all of it where n is more than it has.
-pub fn rest(s: &[u8], n: usize) -> &[u8]
-    ensures { result.now ≡ last n s.now }
-{
-    &s[s.len().saturating_sub(n)..]
 }
 
 // The first token, and what is left after it; None where no token is left.

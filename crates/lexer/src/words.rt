@@ -2,7 +2,7 @@
 ghost use Rattle.std.specs.Prelude.{◌≡◌};
 ghost use Rattle.lexer.specs.Class.{wordy, spacey};
 ghost use Rattle.lexer.specs.Run.{run, after};
-ghost use Rattle.lexer.specs.Words.{same, kind_of, name_like, digit_kind, kind_number};
+ghost use Rattle.lexer.specs.Words.{kind_of, name_like, digit_kind, kind_number};
 ghost use Rattle.lexer.specs.Tokens.{first_word};
 
 use crate::classes::{class_of, in_words};
@@ -47,14 +47,6 @@ pub fn first_word(s: &[u8]) -> &[u8]
     ensures { result.now ≡ first_word s.now }
 {
     word(skip(s))
-}
-
-// Whether two slices hold the same bytes.
-#[tactic(auto, using(crate::proofs::SameLaws::pointwise_same))]
-pub fn same(a: &[u8], k: &[u8]) -> bool
-    ensures { result ≡ same a.now k.now }
-{
-    a == k
 }
 
 // Whether a word has 1 to 8 bytes and begins with a letter.
