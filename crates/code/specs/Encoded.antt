@@ -2,7 +2,7 @@
 -- Assumes nothing.
 use Rattle.std.specs.Prelude.{◌≡◌, Bool, List, [], ◌∷◌, ◌++◌, ℕ, ◌-◌, ◌<◌, ◌≤◌, Option, Some, None, length, take, replicate}
 use Rattle.std.specs.Borrow.{Bor}
-use Rattle.lexer.specs.Tokens.{Token, tokens}
+use Rattle.lexer.specs.Tokens.{Token, tokens, last}
 use Rattle.code.specs.Code.{code_of, unheld, codes, any_unheld}
 use Rattle.code.specs.declared.encode.Encoded.{Encoded}
 
@@ -10,10 +10,10 @@ use Rattle.code.specs.declared.encode.Encoded.{Encoded}
 abbrev pub code_size : ℕ
 code_size = 126
 
--- what a text begins with: no token; or its code, whether it is a name that has no id, and what is left after it
+-- what a text begins with: no token; or its code, whether it is a name that has no id, and what is left after it, which is the text's end
 unfoldable pub Front : List ℕ → List ℕ → Option (ℕ × Bool × Bor (List ℕ)) → Type 0
 Front ns s None = tokens s ≡ []
-Front ns s (Some (c, u, left)) = (length left.now < length s) × ((t : Token) × (tokens s ≡ t ∷ tokens left.now) × (code_of ns t ≡ c) × (unheld ns t ≡ u))
+Front ns s (Some (c, u, left)) = (length left.now < length s) × ((t : Token) × (tokens s ≡ t ∷ tokens left.now) × (code_of ns t ≡ c) × (unheld ns t ≡ u) × (left.now ≡ last (length left.now) s))
 
 -- the bytes that count are lent; none where the length is more than a code has
 abbrev pub LendsCounted : Encoded → Option (Bor (List ℕ)) → Type 0

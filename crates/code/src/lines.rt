@@ -39,7 +39,7 @@ fn leading(text: &[u8]) -> u64
     names::pack(first_word(text))
 }
 
-// Whether a rule's past has few enough patterns. Refusal 7 stands here alone.
+// Whether a rule's past has few enough patterns: the limit stands here alone, and `follow` answers 7 by it.
 fn few(body: &Encoded) -> bool
     ensures { result ≡ few_in body.now }
 {

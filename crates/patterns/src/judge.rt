@@ -4,7 +4,7 @@ ghost use Rattle.patterns.specs.Judged.{onward, role_at, both_of, either_of, not
 
 use crate::roles::below;
 
-// Where a spelling ends, and whether the event meets what it spells.
+// Where a spelling ends, and whether the event meets what it spells. Kept: `ok` is no Option of the end, since both count whether or not it is met.
 #[derive(Clone, Copy, Debug, PartialEq, Eq)]
 pub struct Judged {
     pub end: usize,
@@ -64,89 +64,100 @@ fn after(i: usize, n: usize) -> usize
     if i < n { i + 1 } else { i }
 }
 
-// Whether the role at i of the event is the one that a byte of code names or, under, one below it.
-#[tactic(auto, unfolding(crate::specs::Judged::role_at))]
-fn role_at(under: bool, byte: u8, event: &[u8], i: usize, parents: &[u8]) -> bool
-    ensures { result ≡ role_at parents.now under byte event.now i }
-{
-    let (Some(named), Some(&role)) = (byte.checked_sub(128), event.get(i)) else {
-        return false;
-    };
-    if under {
-        below(parents, role, named)
-    } else {
-        role == named
-    }
+// What a pattern is judged by: the code that spells it, the event, and the parents of roles. The slices may have any lengths and hold anything. Places in the
+// code are numbers: where a spelling ends is kept with a rule, and so is told as a number.
+#[derive(Clone, Copy)]
+pub struct Matcher<'a> {
+    pub code: &'a [u8],
+    pub event: &'a [u8],
+    pub parents: &'a [u8],
 }
 
-// Items from at on, after `<`, against the roles of the event from i on.
-fn items(code: &[u8], at: usize, event: &[u8], i: usize, parents: &[u8]) -> Judged
-    ensures { ItemsRead parents.now event.now i code.now at result }
-{
-    let next = after(i, event.len());
-    match code.get(at) {
-        None => Judged { end: at, ok: false },
-        Some(b'>') => Judged {
-            end: at + 1,
-            ok: i >= event.len(),
-        },
-        Some(b'*') => Judged {
-            end: at + 2,
-            ok: true,
-        },
-        Some(b'+') => {
-            let name = at + 1;
-            let Some(&named) = code.get(name) else {
-                return Judged {
-                    end: name,
-                    ok: false,
-                };
-            };
-            let ok = role_at(true, named, event, i, parents);
-            items(code, name + 1, event, next, parents).joined(ok)
-        }
-        Some(&named) => {
-            let ok = role_at(false, named, event, i, parents);
-            items(code, at + 1, event, next, parents).joined(ok)
-        }
-    }
-}
-
-// A condition by its nesting: one function judges a whole condition, or one term of it, by recursion. What falls is the code left, and then whole.
-fn judge(code: &[u8], at: usize, whole: bool, event: &[u8], parents: &[u8]) -> Judged
-    ensures { JudgeRead parents.now event.now code.now at whole result }
-{
-    if whole {
-        let t = judge(code, at, false, event, parents);
-        let Some(b'o') = code.get(t.end) else {
-            return t;
+impl Matcher<'_> {
+    // Whether the role at i of the event is the one that a byte of code names or, under, one below it.
+    #[tactic(auto, unfolding(crate::specs::Judged::role_at))]
+    fn role_at(&self, under: bool, byte: u8, i: usize) -> bool
+        ensures { result ≡ role_at self.now.parents.now under byte self.now.event.now i }
+    {
+        let (Some(named), Some(&role)) = (byte.checked_sub(128), self.event.get(i)) else {
+            return false;
         };
-        return judge(code, t.end + 1, true, event, parents).or_else(t.ok);
+        if under {
+            below(self.parents, role, named)
+        } else {
+            role == named
+        }
     }
-    match code.get(at) {
-        None => Judged { end: at, ok: false },
-        Some(b'n') => judge(code, at + 1, false, event, parents).opposite(),
-        Some(b'a') => Judged {
-            end: at + 1,
-            ok: true,
-        },
-        Some(b'<') => items(code, at + 1, event, 0, parents),
-        Some(_) => judge(code, at + 1, true, event, parents).bracketed(code),
-    }
-}
 
-// A pattern from at on: any, a simple pattern, or a condition in square brackets, which is read as a term is: which bracket stands there is not asked. The
-// two that are common are read here, with no call that recurs.
-pub fn pattern(code: &[u8], at: usize, event: &[u8], parents: &[u8]) -> Judged
-    ensures { PatternRead parents.now event.now code.now at result }
-{
-    match code.get(at) {
-        None => Judged { end: at, ok: false },
-        Some(b'a') => Judged {
-            end: at + 1,
-            ok: true,
-        },
-        Some(b'<') => items(code, at + 1, event, 0, parents),
-        Some(_) => judge(code, at, false, event, parents),
+    // Items from at on, after `<`, against the roles of the event from i on.
+    fn items(&self, at: usize, i: usize) -> Judged
+        ensures { ItemsRead self.now.parents.now self.now.event.now i self.now.code.now at result }
+    {
+        let next = after(i, self.event.len());
+        match self.code.get(at) {
+            None => Judged { end: at, ok: false },
+            Some(b'>') => Judged {
+                end: at + 1,
+                ok: i >= self.event.len(),
+            },
+            Some(b'*') => Judged {
+                end: at + 2,
+                ok: true,
+            },
+            Some(b'+') => {
+                let name = at + 1;
+                let Some(&named) = self.code.get(name) else {
+                    return Judged {
+                        end: name,
+                        ok: false,
+                    };
+                };
+                let ok = self.role_at(true, named, i);
+                self.items(name + 1, next).joined(ok)
+            }
+            Some(&named) => {
+                let ok = self.role_at(false, named, i);
+                self.items(at + 1, next).joined(ok)
+            }
+        }
+    }
+
+    // A condition by its nesting: one function judges a whole condition, or one term of it, by recursion. What falls is the code left, and then whole.
+    fn judge(&self, at: usize, whole: bool) -> Judged
+        ensures { JudgeRead self.now.parents.now self.now.event.now self.now.code.now at whole result }
+    {
+        if whole {
+            let t = self.judge(at, false);
+            let Some(b'o') = self.code.get(t.end) else {
+                return t;
+            };
+            return self.judge(t.end + 1, true).or_else(t.ok);
+        }
+        match self.code.get(at) {
+            None => Judged { end: at, ok: false },
+            Some(b'n') => self.judge(at + 1, false).opposite(),
+            Some(b'a') => Judged {
+                end: at + 1,
+                ok: true,
+            },
+            Some(b'<') => self.items(at + 1, 0),
+            Some(_) => self.judge(at + 1, true).bracketed(self.code),
+        }
+    }
+
+    // A pattern from at on: any, a simple pattern, or a condition in square brackets, which is read as a term is: which bracket stands there is not asked.
+    // The two that are common are read here, with no call that recurs.
+    pub fn pattern(&self, at: usize) -> Judged
+        ensures { PatternRead self.now.parents.now self.now.event.now self.now.code.now at result }
+    {
+        match self.code.get(at) {
+            None => Judged { end: at, ok: false },
+            Some(b'a') => Judged {
+                end: at + 1,
+                ok: true,
+            },
+            Some(b'<') => self.items(at + 1, 0),
+            Some(_) => self.judge(at, false),
+        }
     }
 }

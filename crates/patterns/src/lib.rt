@@ -6,5 +6,5 @@
 mod judge;
 mod roles;
 
-pub use judge::{Judged, pattern};
+pub use judge::{Judged, Matcher};
 pub use roles::below;

@@ -2,7 +2,7 @@
 -- Assumes nothing.
 use Rattle.std.proofs.Common.{rules}
 use Rattle.patterns.proofs.ItemLaws.{no_items, closed, starred, short, unders, sames}
-use Rattle.patterns.proofs.judge.+items.Goals as goal
+use Rattle.patterns.proofs.judge.Matcher.+items.Goals as goal
 
 pub returns-in-None : goal.returns-in-None
 returns-in-None t c = no_items _ _ _ _ _ _ (search rules)

@@ -4,7 +4,7 @@ use Rattle.std.proofs.Common.{refl, rules}
 use Rattle.patterns.proofs.JudgeLaws.{as_condition, as_term}
 use Rattle.patterns.proofs.PatternLaws.{no-pattern, not-pattern, any_pattern, list-pattern, bracket_pattern}
 use Rattle.patterns.proofs.TermLaws.{no-term, not-term, any_term, list-term, bracket_term, last-cond, end-cond, or-cond}
-use Rattle.patterns.proofs.judge.+judge.Goals as goal
+use Rattle.patterns.proofs.judge.Matcher.+judge.Goals as goal
 
 pub returns-in_default : goal.returns-in_default
 returns-in_default t c = as_condition _ _ _ _ _ _ c.if-whole.true (end-cond _ _ _ _ _ (c.judge-t.ensures.one refl) (search rules))

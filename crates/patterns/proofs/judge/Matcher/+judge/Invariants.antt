@@ -1,6 +1,6 @@
 use Rattle.std.proofs.Common.{◌-◌, ◌+◌, ◌*◌, length}
 use Rattle.patterns.proofs.JudgeLaws.{level}
-use Rattle.patterns.proofs.judge.+judge.Given as goal
+use Rattle.patterns.proofs.judge.Matcher.+judge.Given as goal
 
 abbrev pub decreases-judge : goal.decreases-judge
-decreases-judge l = 2 * (length l.code.now - l.at) + level l.whole
+decreases-judge l = 2 * (length l.self.now.code.now - l.at) + level l.whole

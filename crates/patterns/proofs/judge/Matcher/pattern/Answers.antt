@@ -2,7 +2,7 @@
 -- Assumes nothing.
 use Rattle.std.proofs.Common.{rules}
 use Rattle.patterns.proofs.PatternLaws.{no-pattern, any_pattern, list-pattern}
-use Rattle.patterns.proofs.judge.pattern.Goals as goal
+use Rattle.patterns.proofs.judge.Matcher.pattern.Goals as goal
 
 pub returns-in-None : goal.returns-in-None
 returns-in-None c = no-pattern _ _ _ _ _ (search rules)
