@@ -2,6 +2,7 @@
 ghost use Rattle.std.specs.Prelude.{◌≡◌, get_or};
 ghost use Rattle.follow.specs.Walked.{stands_at, starts, StarsRead, BaseRead, FactorRead, SequenceRead, PastRead};
 
+use patterns::Matcher;
 use positions::Summary;
 
 // Where a spelling ends, and what the pass found of it.
@@ -11,13 +12,12 @@ pub struct Walk {
     pub summary: Summary,
 }
 
-// What a pass reads: a past's code, the positions held before the event, the event, and the parents of roles.
+// What a pass reads: the past's code with the event and the parents of roles, and the positions held before the event.
+// Kept: places in the code are numbers. Where the past ends is kept with its rule, as one byte of its row, and so is told as a number.
 #[derive(Clone, Copy)]
 pub struct Step<'a> {
-    pub code: &'a [u8],
+    pub matcher: Matcher<'a>,
     pub positions: u64,
-    pub event: &'a [u8],
-    pub parents: &'a [u8],
 }
 
 // Whether that byte stands at a place of the code.
@@ -55,11 +55,11 @@ fn stars(code: &[u8], walk: Walk) -> Walk
 impl Step<'_> {
     // A base: a pattern, (), or a past in round brackets.
     #[cycle(base_factor_past_sequence)]
-    fn base(self, at: usize, k: usize) -> Walk
-        ensures { BaseRead self.entry.positions self.entry.parents.now self.entry.event.now self.entry.code.now at k result }
+    fn base(&self, at: usize, k: usize) -> Walk
+        ensures { BaseRead self.now.positions self.now.matcher.parents.now self.now.matcher.event.now self.now.matcher.code.now at k result }
     {
-        if !stands(self.code, at, b'(') {
-            let judged = patterns::pattern(self.code, at, self.event, self.parents);
+        if !stands(self.matcher.code, at, b'(') {
+            let judged = self.matcher.pattern(at);
             let summary = Summary::one(self.positions, judged.ok, k);
             return Walk {
                 end: judged.end,
@@ -67,7 +67,7 @@ impl Step<'_> {
             };
         }
         let inside = at + 1;
-        if stands(self.code, inside, b')') {
+        if stands(self.matcher.code, inside, b')') {
             let summary = Summary::nothing(k);
             return Walk {
                 end: inside + 1,
@@ -75,7 +75,7 @@ impl Step<'_> {
             };
         }
         let past = self.past(inside, k);
-        if past.end >= self.code.len() {
+        if past.end >= self.matcher.code.len() {
             return past;
         }
         Walk {
@@ -86,20 +86,20 @@ impl Step<'_> {
 
     // A factor: a base and its stars.
     #[cycle(base_factor_past_sequence)]
-    fn factor(self, at: usize, k: usize) -> Walk
-        ensures { FactorRead self.entry.positions self.entry.parents.now self.entry.event.now self.entry.code.now at k result }
+    fn factor(&self, at: usize, k: usize) -> Walk
+        ensures { FactorRead self.now.positions self.now.matcher.parents.now self.now.matcher.event.now self.now.matcher.code.now at k result }
     {
         let base = self.base(at, k);
-        stars(self.code, base)
+        stars(self.matcher.code, base)
     }
 
     // A sequence: factors side by side.
     #[cycle(base_factor_past_sequence)]
-    fn sequence(self, at: usize, k: usize) -> Walk
-        ensures { SequenceRead self.entry.positions self.entry.parents.now self.entry.event.now self.entry.code.now at k result }
+    fn sequence(&self, at: usize, k: usize) -> Walk
+        ensures { SequenceRead self.now.positions self.now.matcher.parents.now self.now.matcher.event.now self.now.matcher.code.now at k result }
     {
         let factor = self.factor(at, k);
-        if !starts(self.code, factor.end) {
+        if !starts(self.matcher.code, factor.end) {
             return factor;
         }
         let rest = self.sequence(factor.end, factor.summary.next);
@@ -112,11 +112,11 @@ impl Step<'_> {
 
     // A past from at on, its patterns numbered from k on.
     #[cycle(base_factor_past_sequence)]
-    pub fn past(self, at: usize, k: usize) -> Walk
-        ensures { PastRead self.entry.positions self.entry.parents.now self.entry.event.now self.entry.code.now at k result }
+    pub fn past(&self, at: usize, k: usize) -> Walk
+        ensures { PastRead self.now.positions self.now.matcher.parents.now self.now.matcher.event.now self.now.matcher.code.now at k result }
     {
         let sequence = self.sequence(at, k);
-        if !stands(self.code, sequence.end, b'+') {
+        if !stands(self.matcher.code, sequence.end, b'+') {
             return sequence;
         }
         let other = self.past(sequence.end + 1, sequence.summary.next);
