@@ -1,8 +1,8 @@
 -- A machine that an accepted image says is one that operations could leave, and the book that follows its marks is in order.
 -- Assumes nothing.
 use Rattle.std.proofs.Common.{◌≡◌, refl, sym, ap, ◌∙◌, subst, Bool, true, false, cond, List, [], ◌∷◌, map, ℕ, ◌/◌, ◌%◌, ◌≤◌, arith, eqb, length, replicate, eqb-true}
-use mathlib.Core.Option.{Option, none, some, none-ne-some, some-injective}
-use lib.ListN.{length-map}
+use Rattle.std.proofs.Math.Option.{Option, none, some, none-ne-some, some-injective}
+use Rattle.std.proofs.lemmas.List.{length-map}
 use Rattle.common.specs.All.{All}
 use Rattle.common.specs.Limits.{record_size, reply_size}
 use Rattle.common.proofs.AllLaws.{all_of, all_mapped}

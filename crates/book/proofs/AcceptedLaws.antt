@@ -1,7 +1,7 @@
 -- `restored` accepts exactly the images of specs/Accepted.antt: refusal 12 the other way round.
 -- Assumes nothing.
 use Rattle.std.proofs.Common.{◌≡◌, refl, sym, ap, ap₂, ◌∙◌, subst, Bool, true, false, cond, List, [], ◌∷◌, ◌++◌, map, ◌↔◌, ℕ, ◌/◌, ◌%◌, ◌<◌, arith, eqb, length, eqb-true}
-use mathlib.Core.Option.{Option, none, some, none-ne-some, some-injective}
+use Rattle.std.proofs.Math.Option.{Option, none, some, none-ne-some, some-injective}
 use Rattle.common.specs.All.{All}
 use Rattle.common.specs.Limits.{record_size}
 use Rattle.grammar.specs.Size.{size_past}

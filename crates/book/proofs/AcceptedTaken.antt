@@ -1,9 +1,8 @@
 -- An image that is accepted by the words of specs/Accepted.antt is taken by `restored`, which gives the machine that they say.
 -- Assumes nothing.
 use Rattle.std.proofs.Common.{◌≡◌, refl, sym, ap, ◌∙◌, subst, Bool, cond, List, [], ◌∷◌, ◌++◌, map, ℕ, ◌≤◌, arith, length, get_or, eq-eqb}
-use mathlib.Core.List.{map-append}
-use mathlib.Core.Option.{Option, none, some}
-use lib.ListN.{length-map}
+use Rattle.std.proofs.lemmas.List.{map-append, length-map}
+use Rattle.std.proofs.Math.Option.{Option, none, some}
 use Rattle.common.specs.All.{All}
 use Rattle.common.proofs.AllLaws.{all_append, all_left, all_right, all_map}
 use Rattle.frame.specs.Record.{line_byte}

@@ -1,7 +1,7 @@
 -- Demand 2 in document 01's words, of the book at any call: what is taken and what is refused, exactly; and how an event is answered.
 -- Assumes nothing.
 use Rattle.std.proofs.Common.{◌≡◌, refl, ap, ◌∙◌, true, ◌↔◌, ◌⊎◌, inl, inr, List, ℕ, ◌<◌, arith, length}
-use lib.ListN.{length-map}
+use Rattle.std.proofs.lemmas.List.{length-map}
 use Rattle.lexer.specs.Words.{same}
 use Rattle.patterns.specs.Roles.{all_held}
 use Rattle.patterns.specs.Meets.{order_of}

@@ -1,8 +1,8 @@
 -- Marks that an image gave, followed: the walk's sets are C-12's, the numbers are the walk's sets, and they decide the match as the book does.
 -- Assumes nothing.
 use Rattle.std.proofs.Common.{◌≡◌, refl, sym, ap, ◌∙◌, subst, true, false, ◌↔◌, List, [], ◌∷◌, ℕ, ◌≤◌, arith}
-use mathlib.Core.Path.{fun_ext}
-use mathlib.Core.Logic.Iff
+use Rattle.std.proofs.Math.Path.{fun_ext}
+use Rattle.std.proofs.Math.Logic.Iff
 use Rattle.common.specs.Limits.{max_patterns}
 use Rattle.common.proofs.Bools.{same_test}
 use Rattle.lexer.specs.Words.{same}

@@ -1,8 +1,9 @@
 -- The lists of records that an image is made of: in declared order and back, one after the other and cut again, lines and what follows them.
 -- Assumes nothing.
 use Rattle.std.proofs.Common.{◌≡◌, refl, ap, ap₂, ◌∙◌, Bool, true, false, cond, List, [], ◌∷◌, ◌++◌, map, ℕ, ◌*◌, arith, length, get_or, length-append, take_at, drop_at, eqb-true}
-use mathlib.Core.List.{map-append, flatten}
-use mathlib.Core.Option.{Option, none, some, none-ne-some}
+use Rattle.std.proofs.lemmas.List.{map-append}
+use mathlib.Core.List.{flatten}
+use Rattle.std.proofs.Math.Option.{Option, none, some, none-ne-some}
 use Rattle.common.specs.All.{All}
 use Rattle.common.specs.Limits.{record_size}
 use Rattle.frame.specs.Record.{line_byte}

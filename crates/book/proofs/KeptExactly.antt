@@ -1,7 +1,7 @@
 -- Keeping hands back exactly what C-12 says.
 -- Assumes nothing.
 use Rattle.std.proofs.Common.{◌≡◌, refl, subst, Bool, true, false, cond, ◌↔◌, List, ◌++◌, ℕ, ◌*◌, ◌/◌, arith, leb, length, drop, leb-true, leb-false, le-leb}
-use borrow.Author.Tests.{lt-leb}
+use Rattle.std.proofs.lemmas.Bool.{lt-leb}
 use Rattle.common.specs.Limits.{record_size}
 use Rattle.book.specs.Operations.{Result, kept, keep_fits, kept_in}
 use Rattle.book.specs.KeptRows.{KeptRow, too_short, written}

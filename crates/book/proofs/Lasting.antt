@@ -2,8 +2,7 @@
 -- Assumes nothing.
 use Rattle.std.proofs.Common.{◌≡◌, refl, sym, ap, ap₂, ◌∙◌, subst, Bool, true, false, ◌||◌, List, [], ◌∷◌, map, ℕ, ◌<◌, ◌≤◌, arith, length, drop}
 use mathlib.Core.List.{map-map}
-use lib.ListN.{length-map}
-use lib.Seq.{drop-append-le}
+use Rattle.std.proofs.lemmas.List.{length-map, drop-append-le}
 use Rattle.common.specs.All.{All}
 use Rattle.common.specs.Limits.{max_roles, max_rules}
 use Rattle.common.proofs.AllLaws.{all_append, all_map, all_mapped}

@@ -1,10 +1,10 @@
 -- `M` records: what keeping writes is read again, and nothing else is read.
 -- Assumes nothing.
 use Rattle.std.proofs.Common.{◌≡◌, refl, sym, ap, ◌∙◌, subst, Bool, true, false, cond, ◌&&◌, List, [], ◌∷◌, ◌++◌, append_assoc, ◌↔◌, ℕ, zero, suc, ◌+◌, ◌-◌, ◌*◌, ◌/◌, ◌%◌, ◌^◌, ◌<◌, ◌≤◌, mul_assoc, mul-le-mul_right, arith, ltb, pow_mono, length, take, drop, length-append, take_at, drop_at, drop-drop, ltb-true, ltb-false, lt-ltb, le-leb}
-use mathlib.Core.Option.{none, some, none-ne-some, some-injective}
-use native.Mathlib.Nat.{pow-succ'}
-use lib.Seq.{take-nil}
-use borrow.Author.Tests.{lt-leb}
+use Rattle.std.proofs.Math.Option.{none, some, none-ne-some, some-injective}
+use Rattle.std.proofs.Math.Nat.{pow-succ'}
+use Rattle.std.proofs.Math.Seq.{take-nil}
+use Rattle.std.proofs.lemmas.Bool.{lt-leb}
 use Rattle.common.specs.Limits.{record_size, name_size, max_patterns}
 use Rattle.lexer.specs.Class.{within}
 use Rattle.lexer.specs.Words.{same}

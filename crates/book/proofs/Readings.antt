@@ -1,7 +1,7 @@
 -- Whichever reading of C-12 is taken at each restore, the results of a session are the same.
 -- Assumes nothing.
 use Rattle.std.proofs.Common.{◌≡◌, sym, ap, ◌∙◌, subst, List}
-use mathlib.Core.Option.{Option}
+use Rattle.std.proofs.Math.Option.{Option}
 use Rattle.common.specs.All.{All}
 use Rattle.book.specs.MachineSteps.{PositionMachine, fresh_machine, machine_of}
 use Rattle.book.specs.Session.{answers, Run}

@@ -2,8 +2,8 @@
 -- Assumes nothing.
 use Rattle.std.proofs.Common.{◌≡◌, refl, sym, ap, ap₂, ◌∙◌, Bool, cond, List, [], ◌∷◌, ◌++◌, map, append_assoc, ℕ, ◌*◌, ◌/◌, ◌%◌, arith, length, drop, eq-eqb}
 use mathlib.Core.List.{map-map}
-use mathlib.Core.Option.{Option, none, some}
-use lib.ListN.{length-map}
+use Rattle.std.proofs.Math.Option.{Option, none, some}
+use Rattle.std.proofs.lemmas.List.{length-map}
 use Rattle.common.specs.All.{All}
 use Rattle.common.specs.Limits.{record_size}
 use Rattle.common.proofs.AllLaws.{all_of, all_append, all_mapped}

@@ -1,8 +1,8 @@
 -- The four ways that a round can go; and that the image kept always has room, so that keeping is never refused in one.
 -- Assumes nothing.
 use Rattle.std.proofs.Common.{◌≡◌, refl, ap, ◌∙◌, true, false, List, ◌++◌, map, ℕ, ◌*◌, ◌/◌, ◌≤◌, arith, eqb, length, drop, length-append, length-drop, take_at, eqb-true, eq-eqb, leb-true, le-leb}
-use mathlib.Core.Option.{none, some}
-use lib.ListN.{length-map}
+use Rattle.std.proofs.Math.Option.{none, some}
+use Rattle.std.proofs.lemmas.List.{length-map}
 use Rattle.common.proofs.Bools.{and_left, and_right, and_both}
 use Rattle.common.specs.Limits.{record_size}
 use Rattle.book.specs.MachineSteps.{PositionMachine}

@@ -1,7 +1,7 @@
 -- A round goes exactly as C-13 says, and as restoring, running the batch and keeping in any session.
 -- Assumes nothing.
 use Rattle.std.proofs.Common.{◌≡◌, refl, sym, ap, ◌∙◌, subst, Bool, true, false, ◌↔◌, List, [], ◌∷◌, ℕ, ◌≤◌, ◌<◌, arith, length}
-use mathlib.Core.Option.{Option, none, some}
+use Rattle.std.proofs.Math.Option.{Option, none, some}
 use Rattle.common.proofs.Bools.{not-true, true_not_false}
 use Rattle.book.specs.Decide.{Answer}
 use Rattle.book.specs.MachineSteps.{PositionMachine, machine_step, machine_of}

@@ -2,7 +2,7 @@
 -- Document 02, C-13.
 -- Assumes nothing.
 use Rattle.std.proofs.Common.{◌≡◌, refl, sym, ap, ap₂, ◌∙◌, subst, Bool, true, false, cond, List, [], ◌∷◌, ◌++◌, ℕ, ◌*◌, arith, length}
-use mathlib.Core.Option.{some}
+use Rattle.std.proofs.Math.Option.{some}
 use Rattle.common.specs.Limits.{record_size}
 use Rattle.book.specs.Decide.{Call, Answer}
 use Rattle.book.specs.Book.{Book, fresh_book, book_step}

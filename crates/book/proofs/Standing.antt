@@ -1,7 +1,7 @@
 -- Demand 3, second part, over operations: every book has a story of single calls, and so every event of its list meets what it met when it was committed.
 -- Assumes nothing.
 use Rattle.std.proofs.Common.{◌≡◌, refl, sym, ap, ◌∙◌, subst, Bool, true, false, cond, List, [], ◌∷◌, ◌++◌, append_assoc, append-nil, ℕ, arith, length}
-use mathlib.Core.Option.{Option, none, some}
+use Rattle.std.proofs.Math.Option.{Option, none, some}
 use Rattle.common.specs.All.{All}
 use Rattle.common.proofs.AllLaws.{all_map}
 use Rattle.lexer.specs.Words.{same}

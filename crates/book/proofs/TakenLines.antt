@@ -1,10 +1,8 @@
 -- The lines of an image of a machine that operations leave: each is a record whose text says its line, and a fresh machine takes them in order.
 -- Assumes nothing.
 use Rattle.std.proofs.Common.{◌≡◌, refl, sym, ap, ◌∙◌, subst, true, false, List, [], ◌∷◌, ◌++◌, map, ℕ, ◌<◌, ◌≤◌, arith, length, drop, eq-eqb}
-use mathlib.Core.List.{map-append}
-use mathlib.Core.Option.{Option, some}
-use lib.ListN.{length-map}
-use lib.Seq.{drop-append-le}
+use Rattle.std.proofs.lemmas.List.{map-append, length-map, drop-append-le}
+use Rattle.std.proofs.Math.Option.{Option, some}
 use Rattle.common.specs.All.{All}
 use Rattle.common.specs.Limits.{max_roles, max_rules}
 use Rattle.common.proofs.AllLaws.{all_left, all_right}

@@ -1,7 +1,7 @@
 -- Demand 3, over the list of operations as a whole. Document 01, "The full list": "Demand 3 is said of the list of calls as a whole, once"; document 02, C-11 and C-12.
 -- Assumes nothing.
 use Rattle.std.proofs.Common.{◌≡◌, refl, sym, ap, ◌∙◌, List, [], ◌∷◌, map}
-use mathlib.Core.Option.{Option, some-injective}
+use Rattle.std.proofs.Math.Option.{Option, some-injective}
 use Rattle.book.specs.Decide.{Call}
 use Rattle.book.specs.Book.{Book, fresh_book, book_step}
 use Rattle.book.specs.MachineSteps.{PositionMachine, fresh_machine, machine_step, machine_of}

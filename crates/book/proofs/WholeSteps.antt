@@ -1,7 +1,7 @@
 -- One operation, by the machine with positions and by the book of the session: the same result, and the machine left is the book left with its list taken to positions.
 -- Assumes nothing.
 use Rattle.std.proofs.Common.{◌≡◌, refl, sym, ap, ◌∙◌, subst, Bool, true, false, cond, List, [], ◌∷◌, ℕ}
-use mathlib.Core.Option.{Option, none, some, none-ne-some, some-injective}
+use Rattle.std.proofs.Math.Option.{Option, none, some, none-ne-some, some-injective}
 use Rattle.common.specs.All.{All}
 use Rattle.lexer.specs.Words.{same}
 use Rattle.lexer.proofs.KindLaws.{same_true}

@@ -1,8 +1,8 @@
 -- `work_event` works an event exactly as "Working an act" says, whatever the roles and rules.
 -- Assumes nothing.
 use Rattle.std.proofs.Common.{◌≡◌, refl, ap, ◌∙◌, subst, ◌↔◌, ◌⊎◌, inl, inr, ⊎_elim, List, [], ◌∷◌, ℕ, zero, suc, ◌+◌, ◌-◌, ◌≤◌, ◌<◌, arith, length}
-use mathlib.Core.Option.{Option, none, some}
-use lib.ListN.{get_elem?}
+use Rattle.std.proofs.Math.Option.{Option, none, some}
+use Rattle.std.proofs.Math.ListN.{get_elem?}
 use Rattle.grammar.specs.Trees.{named, place, Template, Response, pass, hold, send, anew}
 use Rattle.grammar.specs.Valid.{ValidSlot, ValidSlots}
 use Rattle.patterns.specs.Meets.{Order}

@@ -1,7 +1,7 @@
 -- Two neighbouring rules that no event of the roles at hand makes due together may change places (document 02, C-23).
 -- Assumes nothing.
 use Rattle.std.proofs.Common.{◌≡◌, refl, ap, ◌∙◌, Bool, true, false, cond, ◌&&◌, List, [], ◌∷◌, ◌++◌, ℕ, zero, suc, ◌-◌}
-use mathlib.Core.Option.{Option, none, some}
+use Rattle.std.proofs.Math.Option.{Option, none, some}
 use Rattle.common.proofs.Bools.{true_not_false}
 use Rattle.grammar.specs.Trees.{Response, pass, hold, send, anew}
 use Rattle.grammar.specs.Names.{response_names}

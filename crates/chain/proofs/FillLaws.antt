@@ -1,9 +1,9 @@
 -- What each way through `slot`, `fill` and `template` shows.
 -- Assumes nothing.
 use Rattle.std.proofs.Common.{◌≡◌, refl, sym, ap, ◌∙◌, List, [], ◌∷◌, ◌++◌, append_assoc, append-nil, Option, None, Some, IfSome, ℕ, zero, suc, ◌+◌, ◌-◌, ◌<◌, ◌≤◌, arith, length, get_or, drop}
-use mathlib.Core.Option as maybe
-use mathlib.Core.Option.{none, some}
-use lib.ListN.{get_elem?}
+use Rattle.std.proofs.Math.Option as maybe
+use Rattle.std.proofs.Math.Option.{none, some}
+use Rattle.std.proofs.Math.ListN.{get_elem?}
 use Rattle.grammar.specs.Trees.{Slot, named, place, Template}
 use Rattle.code.specs.Trees.{code_slots}
 use Rattle.patterns.proofs.Here as at

@@ -1,8 +1,8 @@
 -- The work names no roles but those of the event and of the duties: what each part of it makes has In where they have.
 -- Assumes nothing.
 use Rattle.std.proofs.Common.{Bool, true, false, cond, ◌&&◌, List, [], ◌∷◌, ℕ, zero, suc, ◌-◌}
-use mathlib.Core.Option.{Option, none, some}
-use lib.ListN.{get_elem?}
+use Rattle.std.proofs.Math.Option.{Option, none, some}
+use Rattle.std.proofs.Math.ListN.{get_elem?}
 use Rattle.grammar.specs.Trees.{named, place, Template}
 use Rattle.grammar.specs.Names.{slots_names}
 use Rattle.common.specs.All.{All}

@@ -1,7 +1,7 @@
 -- A committed event has no roles but those of the event offered and of the duties.
 -- Assumes nothing.
 use Rattle.std.proofs.Common.{◌≡◌, subst, List, [], ◌∷◌, ℕ, zero, suc, ◌-◌}
-use mathlib.Core.Option.{Option, none, some}
+use Rattle.std.proofs.Math.Option.{Option, none, some}
 use Rattle.grammar.specs.Trees.{Response, pass, hold, send, anew}
 use Rattle.grammar.specs.Names.{response_names}
 use Rattle.common.specs.All.{All}

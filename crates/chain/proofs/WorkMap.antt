@@ -1,9 +1,9 @@
 -- The work of an event is the same under other names: it depends on nothing but how the roles at hand compare.
 -- Assumes nothing.
 use Rattle.std.proofs.Common.{◌≡◌, refl, sym, ◌∙◌, Bool, true, false, cond, ◌&&◌, List, [], ◌∷◌, map, ℕ, zero, suc, ◌-◌}
-use mathlib.Core.Option
-use mathlib.Core.Option.{Option, none, some}
-use lib.ListN.{get_elem?}
+use Rattle.std.proofs.Math.Option
+use Rattle.std.proofs.Math.Option.{Option, none, some}
+use Rattle.std.proofs.Math.ListN.{get_elem?}
 use Rattle.grammar.specs.Trees.{Pattern, named, place, Template, Response, pass, hold, send, anew}
 use Rattle.grammar.specs.Rename.{map_pattern, map_slots, map_response}
 use Rattle.grammar.specs.Names.{pattern_names, response_names}

@@ -1,7 +1,7 @@
 -- The loop of `encode`: the tokens coded so far, and what is left. And what the code of a text of a record is.
 -- Assumes nothing.
 use Rattle.std.proofs.Common.{Some, None, Bor, ◌≡◌, refl, ap, sym, ◌∙◌, Bool, false, ◌||◌, List, [], ◌∷◌, ◌++◌, append_assoc, append-nil, ℕ, suc, ◌+◌, ◌-◌, ◌<◌, ◌≤◌, arith, length, take, set, replicate, length-append, length-take, take_all, take_at}
-use mathlib.Core.Bool.{or-false}
+use Rattle.std.proofs.Math.Bool.{or-false}
 use Rattle.lexer.specs.Tokens.{Token, tokens}
 use Rattle.code.specs.Code.{unheld, codes, any_unheld}
 use Rattle.code.specs.Encoded.{code_size, Front, filled, encoded_of}

@@ -1,9 +1,8 @@
 -- The loop of `event_line`: the names read so far, and what is left.
 -- Assumes nothing.
 use Rattle.std.proofs.Common.{Some, None, Bor, Ok, Err, ◌≡◌, refl, ap, sym, ◌∙◌, Bool, true, false, ◌||◌, List, [], ◌∷◌, ◌++◌, append_assoc, append-nil, map, ℕ, zero, suc, ◌+◌, ◌-◌, ◌<◌, ◌≤◌, arith, eqb, length, set, replicate, length-append}
-use mathlib.Core.Bool.{or-false}
-use mathlib.Core.List.{map-append}
-use lib.ListN.{length-map}
+use Rattle.std.proofs.Math.Bool.{or-false}
+use Rattle.std.proofs.lemmas.List.{map-append, length-map}
 use Rattle.common.specs.Limits.{event_size}
 use Rattle.common.specs.declared.refusals.Refusal.TheVariants.{NotInLanguage, NotDeclared}
 use Rattle.lexer.specs.Words.{kind_number}

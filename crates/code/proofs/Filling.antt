@@ -1,7 +1,7 @@
 -- One byte more in an array that is filled up with 0.
 -- Assumes nothing.
 use Rattle.std.proofs.Common.{◌≡◌, ap, sym, ◌∙◌, List, [], ◌∷◌, ◌++◌, append_assoc, ℕ, suc, ◌+◌, ◌-◌, ◌<◌, arith, length, set, replicate}
-use lib.Seq.{set_at}
+use Rattle.std.proofs.lemmas.List.{set_at}
 
 pub filled_more : (size len c : ℕ) (done : List ℕ) → length done ≡ len → len < size
     → set (done ++ replicate (size - len) 0) len c ≡ (done ++ (c ∷ [])) ++ replicate (size - (len + 1)) 0

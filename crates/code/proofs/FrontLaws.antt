@@ -1,7 +1,7 @@
 -- The first token of a text: what `next` answers of the text's tokens, and that token as code.
 -- Assumes nothing.
 use Rattle.std.proofs.Common.{◌≡◌, refl, sym, ◌∙◌, true, false, List, [], ◌∷◌, ℕ, zero, suc, ◌+◌, ◌<◌, ◌≤◌, arith, length, Option, Some, None, Bor, eqb, eq-eqb, ne_eqb}
-use lib.ListN.{get_or-eq_default}
+use Rattle.std.proofs.Math.ListN.{get_or-eq_default}
 use Rattle.lexer.specs.Words.{kind_of, kind_number, name_k, zero_k}
 use Rattle.lexer.specs.Tokens.{word, mark, other, tokens, last, Next}
 use Rattle.lexer.specs.First.{FirstToken, by_numbers, Parts}

@@ -1,7 +1,7 @@
 -- A name among a rule's tokens has no id where one of its tree's has none.
 -- Assumes nothing.
 use Rattle.std.proofs.Common.{◌≡◌, refl, ap, sym, ◌∙◌, Bool, false, ◌||◌, List, [], ◌∷◌, ◌++◌, ℕ, zero, suc, ◌+◌, ◌≤◌, arith}
-use mathlib.Core.Bool.{or-false}
+use Rattle.std.proofs.Math.Bool.{or-false}
 use Rattle.lexer.specs.Class.{class_of}
 use Rattle.lexer.specs.Words.{kind_of, same, name_like, digit_kind, or_w}
 use Rattle.lexer.specs.Tokens.{Token, word, mark}

@@ -2,9 +2,7 @@
 -- Assumes nothing.
 use Rattle.std.proofs.Common.{◌≡◌, refl, sym, ap, ◌∙◌, Bool, true, false, List, [], ◌∷◌, ◌++◌, ℕ, ◌+◌, ◌-◌, ◌<◌, ◌≤◌, min, arith, leb, length, length-append, leb-true, leb-false}
 use borrow.Rule.Slice.PartMut.{put_mid}
-use lib.ListN.{length-replicate}
-use lib.Seq.{take-append-le}
-use Rattle.std.proofs.lemmas.List.{take_min}
+use Rattle.std.proofs.lemmas.List.{take_min, length-replicate, take-append-le}
 use Rattle.columns.specs.Texts.{spaces, padded, opening_of, front_of}
 use Rattle.columns.specs.Writing.{fitting, Writes}
 use Rattle.columns.proofs.PaddedLaws.{take-spaces, padded-short, padded_cut, padded-after, padded-more}

@@ -1,9 +1,9 @@
 -- Laws of writes: one after another is one write of both texts, and a buffer written whole is what was written.
 -- Assumes nothing.
 use Rattle.std.proofs.Common.{◌≡◌, refl, sym, ap, ◌∙◌, Bool, true, false, List, [], ◌∷◌, ◌++◌, append_assoc, append-nil, ℕ, zero, suc, ◌+◌, ◌-◌, ◌<◌, ◌≤◌, min, add-one, arith, ltb, length, take, drop, set, length-append, length-take, length-drop, take-append-drop, drop_of_length-le, take_all, take_at, take-take, drop_at, drop-drop, length-take-le, ltb-true, ltb-false}
-use lib.Seq.{take-nil, take-append-le, append_snoc, set_split}
+use Rattle.std.proofs.Math.Seq.{take-nil, append_snoc}
 use borrow.Rule.Slice.PartMut.{put_mid}
-use Rattle.std.proofs.lemmas.List.{take_min}
+use Rattle.std.proofs.lemmas.List.{take_min, take-append-le, set_split}
 use Rattle.std.proofs.lemmas.Slice.{put_mid-paste}
 use Rattle.columns.specs.Writing.{fitting, laid, Writes}
 

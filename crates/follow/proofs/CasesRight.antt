@@ -1,7 +1,7 @@
 -- The table of past cases is right, as a whole, of Appendix A; and positions, and the numbers that the code computes, give the same answers.
 -- Assumes nothing.
 use Rattle.std.proofs.Common.{◌≡◌, refl, sym, ◌∙◌, List, [], ◌∷◌, append-nil, ℕ, arith, length}
-use mathlib.Core.Option.{Option, none, some}
+use Rattle.std.proofs.Math.Option.{Option, none, some}
 use Prim.Native.String.{String}
 use Rattle.lexer.specs.Class.{class_of, wordy, spacey, marky}
 use Rattle.lexer.specs.Run.{run}

@@ -1,7 +1,7 @@
 -- What each way through `stars` shows.
 -- Assumes nothing.
 use Rattle.std.proofs.Common.{◌≡◌, refl, sym, ap, ◌∙◌, List, ◌++◌, ℕ, zero, suc, ◌+◌, ◌<◌, arith, length, get_or, drop, replicate, ltb, Bool, true, false, ltb-true, ltb-false, eq-eqb, eqb-true}
-use lib.ListN.{get_or-eq_default}
+use Rattle.std.proofs.Math.ListN.{get_or-eq_default}
 use Rattle.common.proofs.Bools.{and_left, and_right, and_both, true_not_false}
 use Rattle.patterns.proofs.Here.{here, first}
 use Rattle.positions.specs.Summaries.{star_summary}

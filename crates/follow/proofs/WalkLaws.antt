@@ -1,7 +1,7 @@
 -- What each way through `base`, `factor`, `sequence` and `past` shows.
 -- Assumes nothing.
 use Rattle.std.proofs.Common.{◌≡◌, refl, sym, ap, ◌∙◌, Bool, true, false, List, [], ◌∷◌, ◌++◌, append_assoc, ℕ, zero, suc, ◌+◌, ◌≤◌, arith, length, get_or, drop, replicate, length-append}
-use lib.ListN.{length-replicate}
+use Rattle.std.proofs.lemmas.List.{length-replicate}
 use Rattle.common.proofs.Bools.{true_not_false}
 use Rattle.grammar.specs.Trees.{Pattern, plain, bracketed, any_event, items, Past, only, either, Sequence, single, beside, Factor, starred, Base, pattern, nothing, group}
 use Rattle.code.specs.Trees.{code_simple, code_pattern, code_past, code_sequence, code_factor, code_base}

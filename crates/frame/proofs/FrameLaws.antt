@@ -1,7 +1,7 @@
 -- Which bytes have which frame: a law for each answer, and what each answer says, exactly.
 -- Assumes nothing.
 use Rattle.std.proofs.Common.{◌≡◌, refl, ap, ◌∙◌, subst, Bool, true, false, cond, List, [], ◌∷◌, ◌++◌, ◌↔◌, ◌⊎◌, inl, inr, ℕ, arith, eqb, length, get_or, eq-eqb, ne_eqb, eqb-true}
-use borrow.Author.Tests.{eqb-false}
+use Rattle.std.proofs.lemmas.Bool.{eqb-false}
 use Rattle.common.specs.Refusals.{answer_number}
 use Rattle.lexer.specs.Class.{all_classed}
 use Rattle.frame.specs.Text.{text_of}

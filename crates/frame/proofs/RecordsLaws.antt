@@ -2,7 +2,7 @@
 -- Assumes nothing.
 use Rattle.std.proofs.Common.{◌≡◌, refl, ap, ◌∙◌, List, [], ◌∷◌, ◌++◌, ℕ, zero, suc, ◌*◌, ◌≤◌, arith, length, take, drop, replicate, length-append, length-drop, take-append-drop, length-take-le}
 use mathlib.Core.List.{flatten}
-use lib.ListN.{length-replicate}
+use Rattle.std.proofs.lemmas.List.{length-replicate}
 use Rattle.common.specs.Limits.{record_size}
 use Rattle.frame.specs.Record.{newline}
 use Rattle.frame.specs.Records.{record_of, records_of}

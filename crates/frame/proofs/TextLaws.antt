@@ -1,7 +1,7 @@
 -- Laws of the text of a record, and of the classes of its bytes.
 -- Assumes nothing.
 use Rattle.std.proofs.Common.{min, ◌≡◌, refl, ap, sym, ◌∙◌, true, false, List, [], ◌∷◌, ◌++◌, ℕ, zero, suc, ◌+◌, ◌<◌, ◌≤◌, arith, length, take, drop, get_or, length-take, length-drop, drop_of_length-le, get_or-take, get_or-drop}
-use lib.Seq.{split_at}
+use Rattle.std.proofs.Math.Seq.{split_at}
 use Rattle.std.proofs.lemmas.List.{take_min}
 use Rattle.std.proofs.Math.Nat.{min_comm}
 use Rattle.lexer.specs.Class.{class_of, all_classed}

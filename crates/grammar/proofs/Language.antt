@@ -1,7 +1,7 @@
 -- Which texts are in the rule language, and that each has one reading.
 -- Assumes nothing.
 use Rattle.std.proofs.Common.{◌≡◌, refl, ap, sym, ◌∙◌, true, List, [], ◌∷◌, append-nil, ◌↔◌, ℕ, arith, length}
-use mathlib.Core.Option.{Option, none, some}
+use Rattle.std.proofs.Math.Option.{Option, none, some}
 use Rattle.lexer.specs.Class.{class_of}
 use Rattle.lexer.specs.Words.{kind_of, same, name_like, digit_kind}
 use Rattle.lexer.specs.Tokens.{Token, tokens}

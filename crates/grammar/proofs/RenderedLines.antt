@@ -1,7 +1,7 @@
 -- A line that some text says, written out again by its tokens: it is read as the same line, it is no longer than that text, and no byte of it is of class 0.
 -- Assumes nothing.
 use Rattle.std.proofs.Common.{◌≡◌, true, false, List, [], ◌∷◌, ◌++◌, ℕ, zero, suc, ◌≤◌, arith, length, replicate}
-use mathlib.Core.Option.{some}
+use Rattle.std.proofs.Math.Option.{some}
 use Rattle.common.specs.All.{All}
 use Rattle.common.proofs.AllLaws.{all_of, all_append, all_mapped}
 use Rattle.lexer.specs.Class.{all_classed}

@@ -1,7 +1,7 @@
 -- What each parser of lines gives is a line of its own kind.
 -- Assumes nothing.
 use Rattle.std.proofs.Common.{◌≡◌, refl, true, false, List, [], ◌∷◌, ℕ, arith, length}
-use mathlib.Core.Option as option
+use Rattle.std.proofs.Math.Option as option
 use Rattle.lexer.specs.Tokens.{Token, tokens}
 use Rattle.grammar.specs.AsRead.{Line, role, rule, event}
 use Rattle.grammar.specs.Parsed.{Parsed, none, some, map, bind, word_is, is_none, whole, wholly}

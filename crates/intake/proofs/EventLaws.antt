@@ -1,8 +1,8 @@
 -- What an event's text asks, by the sheet's names: rows 4 and 6, or the work of the event.
 -- Assumes nothing.
 use Rattle.std.proofs.Common.{◌≡◌, refl, sym, ap, ◌∙◌, subst, Bool, true, false, not, List, [], ◌∷◌, map, ℕ, ◌<◌, ◌≤◌, length, take, take_at}
-use mathlib.Core.Option.{Option, none, some}
-use lib.ListN.{length-map}
+use Rattle.std.proofs.Math.Option.{Option, none, some}
+use Rattle.std.proofs.lemmas.List.{length-map}
 use Rattle.common.specs.Limits.{event_size}
 use Rattle.lexer.specs.Words.{same}
 use Rattle.common.proofs.Bools.{held_from, held-not}

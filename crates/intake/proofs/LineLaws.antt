@@ -1,6 +1,6 @@
 -- What becomes of a line, by its kind.
 -- Assumes nothing.
-use mathlib.Core.Option.{Option, none, some}
+use Rattle.std.proofs.Math.Option.{Option, none, some}
 use Rattle.common.proofs.Bools.{true_not_false}
 use Rattle.grammar.specs.AsRead.{Line, role, rule, event}
 use Rattle.grammar.specs.Lines.{read_line, kind_of_line}

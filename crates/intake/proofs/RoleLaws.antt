@@ -1,6 +1,6 @@
 -- What becomes of a role line is what it asks.
 -- Assumes nothing.
-use mathlib.Core.Option.{some}
+use Rattle.std.proofs.Math.Option.{some}
 use Rattle.common.specs.Limits.{max_roles}
 use Rattle.lexer.specs.Words.{same}
 use Rattle.common.proofs.Bools.{true_not_false}

@@ -1,7 +1,7 @@
 -- What becomes of a rule line is what it asks.
 -- Assumes nothing.
 use Rattle.std.proofs.Common.{◌≡◌, refl, sym, ap, ◌∙◌, subst, Bool, true, false, not, List, ℕ, ◌≤◌, ◌<◌, leb, ltb, length, ltb-true, leb-true}
-use mathlib.Core.Option.{some}
+use Rattle.std.proofs.Math.Option.{some}
 use Rattle.common.specs.Limits.{max_patterns, max_rules}
 use Rattle.lexer.specs.Words.{same}
 use Rattle.grammar.specs.AsRead.{Past, Pattern, Response, rule}

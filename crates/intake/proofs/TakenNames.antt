@@ -1,7 +1,7 @@
 -- The state's name checks are the machine's: a name is taken, or a role held, in the one exactly where it is in the other.
 -- Assumes nothing.
 use Rattle.std.proofs.Common.{◌≡◌, refl, sym, ap, ap₂, ◌∙◌, subst, Bool, true, false, not, ◌&&◌, ◌||◌, List, [], ◌∷◌, ℕ, zero, suc, ◌<◌, ◌≤◌, arith, eqb, length, get_or, eq-eqb, eqb-true}
-use lib.ListN.{length-map}
+use Rattle.std.proofs.lemmas.List.{length-map}
 use Rattle.lexer.specs.Words.{same}
 use Rattle.common.proofs.Bools.{and_left, and_right, not-not, same_test}
 use Rattle.lexer.proofs.KindLaws.{same_true}

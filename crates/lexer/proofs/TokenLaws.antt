@@ -1,7 +1,7 @@
 -- Laws of the tokens of a text, and of the last n elements of a list.
 -- Assumes nothing.
 use Rattle.std.proofs.Common.{◌≡◌, refl, ap, sym, ◌∙◌, Bool, true, false, cond, List, [], ◌∷◌, ℕ, suc, ◌+◌, ◌-◌, ◌≤◌, zero-le, arith, length, drop, length-drop, drop-drop, eqb-true}
-use native.Mathlib.Nat.{sub_self}
+use Rattle.std.proofs.Math.Nat.{sub_self}
 use Rattle.lexer.specs.Class.{class_of, wordy, spacey, marky}
 use Rattle.lexer.specs.Run.{run, after}
 use Rattle.lexer.specs.Tokens.{Token, word, mark, other, token_at, tokens_from, tokens, last}

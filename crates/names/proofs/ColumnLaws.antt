@@ -1,8 +1,8 @@
 -- Laws of packed names: they fit 64 bits, their columns are those of the name, and none stands for two names.
 -- Assumes nothing.
 use Rattle.std.proofs.Common.{◌≡◌, refl, sym, ap, subst, ◌∙◌, Bool, true, false, List, ℕ, zero, suc, ◌+◌, ◌<◌, ◌≤◌, arith, eqb, length, get_or, eqb-true, le-ltb, ext_get_or}
-use lib.ListN.{get_or-eq_default}
-use borrow.Author.Tests.{eqb-false}
+use Rattle.std.proofs.Math.ListN.{get_or-eq_default}
+use Rattle.std.proofs.lemmas.Bool.{eqb-false}
 use Rattle.std.specs.Int.{w64, from_be_bytes, to_be_bytes}
 use Rattle.std.specs.Fn.{Called}
 use Rattle.std.specs.Array.{IsFromFnResultFrom}

@@ -1,7 +1,7 @@
 -- Names are told apart by their packed numbers.
 -- Assumes nothing.
 use Rattle.std.proofs.Common.{◌≡◌, refl, Bool, true, false, cond, List, [], ◌∷◌, ℕ, zero, suc, ◌-◌, ◌<◌, ◌≤◌, arith, leb, eqb, length, get_or, eqb-true, leb-true}
-use borrow.Author.Tests.{eqb-false}
+use Rattle.std.proofs.lemmas.Bool.{eqb-false}
 use Rattle.lexer.specs.Class.{class_of, wordy, within, among, marks}
 use Rattle.lexer.specs.Words.{kind_of, name_like, digit_kind, name_k, reserved}
 use Rattle.common.proofs.Bools.{and_left, and_right}

@@ -2,7 +2,7 @@
 -- Assumes nothing.
 use Rattle.std.proofs.Common.{◌≡◌, refl, sym, ap, ◌∙◌, Bool, true, false, List, ◌∷◌, ◌++◌, ℕ, suc, ◌+◌, ◌<◌, ◌≤◌, add-one, ltb, length, get_or, drop, drop_of_length-le, drop-cons, drop-drop, get_or-drop, add-zero, ltb-true, ltb-false}
 use mathlib.Core.List.{head-eq_of_cons-eq, tail-eq_of_cons-eq, cons-ne-nil}
-use lib.Seq.{drop-append_seam}
+use Rattle.std.proofs.Math.Seq.{drop-append_seam}
 
 pub record Here (code : List ℕ) (at b : ℕ) (tl : List ℕ) : Type 0 where
   pub inside : at < length code

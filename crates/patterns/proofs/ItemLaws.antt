@@ -1,8 +1,8 @@
 -- What each way through `items` shows.
 -- Assumes nothing.
 use Rattle.std.proofs.Common.{◌≡◌, refl, ap, ◌∙◌, Bool, true, false, cond, ◌&&◌, List, ◌++◌, ℕ, ◌+◌, ◌<◌, ◌≤◌, add-one, arith, ltb, leb, length, get_or, drop, drop_of_length-le, drop-cons, ltb-true, ltb-false, le-ltb, le-leb}
-use native.Mathlib.Nat.{add-sub_cancel_left}
-use borrow.Author.Tests.{lt-leb}
+use Rattle.std.proofs.Math.Nat.{add-sub_cancel_left}
+use Rattle.std.proofs.lemmas.Bool.{lt-leb}
 use Rattle.grammar.specs.Trees.{Item, exact, below, Items, close, star_close, item}
 use Rattle.code.specs.Trees.{code_items}
 use Rattle.patterns.specs.Meets.{item_meets, items_meet}

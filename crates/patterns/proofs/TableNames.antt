@@ -1,7 +1,7 @@
 -- What the code finds of ids, by the table of parents, is what `is_below` and `meets` say of the names that stand for them.
 -- Assumes nothing.
 use Rattle.std.proofs.Common.{◌≡◌, refl, sym, ap, ap₂, ◌∙◌, subst, Bool, true, false, cond, ◌||◌, ◌⊎◌, inl, inr, ⊎_elim, List, map, ℕ, zero, suc, ◌+◌, ◌≤◌, ◌<◌, eq-or-lt_of_le, arith, eqb, get_or, eqb-true, eq-eqb, ne_eqb}
-use borrow.Author.Tests.{eqb-false}
+use Rattle.std.proofs.lemmas.Bool.{eqb-false}
 use Rattle.grammar.specs.Trees.{Pattern}
 use Rattle.grammar.specs.Rename.{map_pattern}
 use Rattle.grammar.specs.Names.{pattern_names}

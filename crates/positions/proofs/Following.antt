@@ -1,7 +1,7 @@
 -- What the walk sets and answers, for any set of positions: exactly what C-12 says.
 -- Assumes nothing.
 use Rattle.std.proofs.Common.{◌≡◌, refl, Bool, true, false, ◌↔◌, inl, inr, ⊎_elim, ℕ, eqb-true, eq-eqb}
-use mathlib.Core.Logic.Iff
+use Rattle.std.proofs.Math.Logic.Iff
 use Rattle.positions.specs.Past.{Past}
 use Rattle.positions.specs.Numbers.{size}
 use Rattle.positions.specs.Positions.{Positions, MayEnd, Follows, Matched}

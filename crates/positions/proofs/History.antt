@@ -2,7 +2,7 @@
 -- Appendix A says so.
 -- Assumes nothing.
 use Rattle.std.proofs.Common.{◌≡◌, refl, sym, Bool, true, List, [], ◌∷◌, ◌++◌, append_assoc, append-nil, ◌↔◌, inl, inr, ⊎_elim, ℕ, suc, ◌+◌, arith, eqb, eqb-true, eq-eqb}
-use mathlib.Core.Logic.Iff
+use Rattle.std.proofs.Math.Logic.Iff
 use Rattle.positions.specs.Past.{Past, Sat, sat_pat, sat_empty, sat_seq, sat_left, sat_right, sat_stop, sat_more}
 use Rattle.positions.specs.Matcher.{matches}
 use Rattle.positions.specs.Numbers.{size, Allows, allow_pat, allow_empty, allow_seq, allow_left, allow_right, allow_stop, allow_more, Nullable, Begins, Ends, Before, met_at, Each, each_none, each_more}

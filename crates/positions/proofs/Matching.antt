@@ -1,7 +1,7 @@
 -- The executable matcher decides Appendix A.
 -- Assumes nothing.
 use Rattle.std.proofs.Common.{◌≡◌, refl, ap, Bool, true, ◌&&◌, List, [], ◌∷◌, ◌++◌, ◌↔◌, ⊎_elim}
-use mathlib.Core.Bool.{false≢true}
+use Rattle.std.proofs.lemmas.Bool.{false≢true}
 use Rattle.positions.specs.Past.{Past, pat, empty, seq, alt, star, Sat, sat_pat, sat_empty, sat_seq, sat_left, sat_right, sat_stop, sat_more}
 use Rattle.positions.specs.Matcher.{some_cut, some_parts, parts, matches}
 use Rattle.common.proofs.Bools.{and_both, and_left, and_right, or_left, or_right, or_cases}

@@ -1,12 +1,12 @@
 -- The laws of sets as numbers: what is in the empty set, in a set of one, in a union, in what two sets share.
 -- Assumes nothing.
 use Rattle.std.proofs.Common.{◌≡◌, refl, sym, ap, ◌∙◌, Bool, true, false, not, ◌&&◌, ◌||◌, ◌↔◌, ℕ, zero, suc, ◌+◌, ◌-◌, ◌*◌, ◌/◌, ◌%◌, ◌^◌, ◌<◌, ◌≤◌, max, min, one-mul, div-one, mod-lt, pow-suc, arith, shl_exact, shr-shr, pow_mono, pow-add, pow_pos, bit_or, bit_and, eqb, ltb, ltb-true, ltb-false, lt-ltb, eqb-true, ne_eqb}
-use mathlib.Core.Bool.{false≢true}
-use native.Mathlib.Nat.{div-eq_of_lt, mul-mod_left}
-use lib.Arith.{digits_mod, lt_of_le-ne}
-use lib.Pow.{shl-shr, pow-lt, split}
-use lib.Bits.{or_step, or_shr, and_step, and_shr}
-use borrow.Author.Tests.{eqb-false, not-true}
+use Rattle.std.proofs.lemmas.Bool.{false≢true, eqb-false, not-true}
+use Rattle.std.proofs.Math.Nat.{div-eq_of_lt, mul-mod_left}
+use Rattle.std.proofs.Math.Arith.{digits_mod, lt_of_le-ne}
+use Rattle.std.proofs.lemmas.Nat.{shl-shr, or_shr, and_shr}
+use Rattle.std.proofs.Math.Pow.{pow-lt, split}
+use lib.Bits.{or_step, and_step}
 use Rattle.positions.specs.Sets.{has_at, bit_of, only_if, shares}
 use Rattle.common.proofs.Bools.{and_both, and_left, and_right}
 

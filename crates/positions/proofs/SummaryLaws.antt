@@ -1,7 +1,7 @@
 -- The numbers that the code computes are the sets of the walk.
 -- Assumes nothing.
 use Rattle.std.proofs.Common.{◌≡◌, refl, sym, ap₂, ◌∙◌, Bool, true, false, ◌&&◌, ◌||◌, ℕ, suc, ◌+◌, ◌<◌, ◌≤◌, ◌^◌, min, arith, eqb, ltb, bit_or, ltb-true, ltb-false}
-use mathlib.Core.Logic.Iff
+use Rattle.std.proofs.Math.Logic.Iff
 use Rattle.positions.specs.Past.{Past, pat, empty, seq, alt, star}
 use Rattle.positions.specs.Numbers.{size}
 use Rattle.positions.specs.Walk.{SetSummary, on_pat, on_empty, on_seq, on_alt, on_star, walk, step, matches_now, ends}

@@ -1,7 +1,7 @@
 -- Laws of a byte of code: which bytes stand for words, and the bytes of the token that it stands for.
 -- Assumes nothing.
 use Rattle.std.proofs.Common.{◌≡◌, refl, Bool, true, false, cond, ◌&&◌, ◌||◌, List, [], ◌∷◌, ◌++◌, ℕ, ◌-◌, ◌<◌, ◌≤◌, arith, leb, le-leb}
-use borrow.Author.Tests.{lt-leb}
+use Rattle.std.proofs.lemmas.Bool.{lt-leb}
 use Rattle.lexer.specs.Class.{within}
 use Rattle.lexer.specs.Tokens.{Token, word, mark}
 use Rattle.lexer.specs.Render.{gap, render_from}

@@ -1,7 +1,7 @@
 -- The tokens of a rule's code are those that spell its tree, with a name for each id.
 -- Assumes nothing.
 use Rattle.std.proofs.Common.{◌≡◌, refl, ap, ◌∙◌, List, [], ◌∷◌, ◌++◌, map, ℕ, zero, suc, ◌+◌, ◌-◌, ◌≤◌, arith, replicate, le-leb}
-use mathlib.Core.List.{map-append}
+use Rattle.std.proofs.lemmas.List.{map-append}
 use Rattle.lexer.specs.Words.{not_w, or_w, send_w, anew_w}
 use Rattle.lexer.specs.Tokens.{Token, word, mark}
 use Rattle.grammar.specs.Trees.{exact, below, Items, close, star_close, item, Simple, any_event, items, Condition, term, or, Term, negate, simple, inside, Pattern, plain, bracketed, Past, only, either, Sequence, single, beside, Factor, starred, Base, pattern, nothing, group, named, place, Response, pass, hold, send, anew, Template}

@@ -1,8 +1,8 @@
 -- What is written is read back: a line's record is a line record, and its text is read as that line; a rule's code is written as its line's text.
 -- Assumes nothing.
 use Rattle.std.proofs.Common.{◌≡◌, refl, ap, sym, ◌∙◌, true, List, [], ◌∷◌, ◌++◌, map, ℕ, ◌-◌, ◌≤◌, arith, length, get_or, length-append, take_at}
-use mathlib.Core.Option.{some}
-use lib.Seq.{get_or_at}
+use Rattle.std.proofs.Math.Option.{some}
+use Rattle.std.proofs.lemmas.List.{get_or_at}
 use Rattle.common.specs.All.{All}
 use Rattle.lexer.specs.Class.{class_of, wordy, all_classed, Wordy}
 use Rattle.lexer.specs.Words.{rule_w, kind_of, name_k}

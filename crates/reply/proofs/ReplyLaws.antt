@@ -1,8 +1,8 @@
 -- Laws of the 50 bytes for those who read them: how many there are, and what stands in each column.
 -- Assumes nothing.
 use Rattle.std.proofs.Common.{◌≡◌, refl, ap, sym, ◌∙◌, Bool, true, false, List, [], ◌∷◌, ◌++◌, map, ℕ, zero, suc, ◌+◌, ◌-◌, ◌*◌, ◌/◌, ◌%◌, ◌<◌, ◌≤◌, arith, ltb, length, get_or, length-append, get_or-append-add, ext_get_or, ltb-true, ltb-false}
-use lib.ListN.{length-map, get_or-replicate, get_or-append}
-use lib.Seq.{get_or_at}
+use Rattle.std.proofs.lemmas.List.{length-map, get_or-replicate, get_or_at}
+use Rattle.std.proofs.Math.ListN.{get_or-append}
 use Rattle.names.specs.Unpacked.{unpacked}
 use Rattle.reply.specs.Reply.{padded, spaced, reply_bytes}
 use Rattle.reply.specs.Columns.{Columns}

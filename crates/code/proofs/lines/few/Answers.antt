@@ -1,7 +1,7 @@
 -- `few` meets its contract: the count over the body's code, held to the limit.
 -- Assumes nothing.
 use Rattle.std.proofs.Common.{refl, le-leb}
-use borrow.Author.Tests.{lt-leb}
+use Rattle.std.proofs.lemmas.Bool.{lt-leb}
 use Rattle.code.specs.Lines.{few_in}
 use Rattle.code.proofs.lines.few.Goals as goal
 
