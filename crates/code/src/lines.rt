@@ -8,6 +8,7 @@ use common::sizes::MAX_PATTERNS;
 use lexer::{first_word, next};
 
 // A rule line: its name, its code after `rule NAME :`, and whether its past has few enough patterns.
+// Kept: `fits` is a flag, no refusal: refusals 5 and 6 come before 7, and `follow` tells them in their order.
 #[derive(Clone, Copy)]
 pub struct RuleLine {
     pub name: u64,
