@@ -6,6 +6,7 @@ use columns::{ReplyKind, blank, front, put, words};
 use common::sizes::REPLY_SIZE;
 
 // Writes a reply where 50 bytes are lent for it, and says whether they are. The newline ends a text that is too long for its columns.
+// Kept: five parameters, the buffer and the reply's four columns. They come together here and nowhere else; a struct would be made anew for this one call.
 pub fn reply(out: &mut [u8], kind: ReplyKind, number: u8, name: u64, roles: &[u64]) -> bool
     ensures { Written out.old (reply_of kind number name roles.now) out.new result }
 {

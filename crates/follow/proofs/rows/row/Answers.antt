@@ -5,4 +5,4 @@ use Rattle.follow.proofs.RowLaws.{row_from}
 use Rattle.follow.proofs.rows.row.Goals as goal
 
 pub returns : goal.returns
-returns c = c.front.ensures ∙ row_from _ _ _ _ c.min-start.ensures c.saturating_mul.ensures (omega arith)
+returns c = c.prefix.ensures ∙ row_from _ _ _ _ c.min-start.ensures c.saturating_mul.ensures (omega arith)
