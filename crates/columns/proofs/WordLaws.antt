@@ -1,59 +1,29 @@
 -- Laws of names written as text.
 -- Assumes nothing.
-use Rattle.std.proofs.Common.{◌≡◌, refl, ap, sym, ◌∙◌, Bool, cond, not, List, [], ◌∷◌, ◌++◌, append_assoc, append-nil, map, ℕ, suc, ◌+◌, ◌-◌, ◌*◌, ◌<◌, ◌≤◌, zero-le, add-one, arith, length, take, drop, get_or, length-append, take-suc, drop-cons, eq-eqb, ne_eqb}
+use Rattle.std.proofs.Common.{◌≡◌, ap, sym, ◌∙◌, List, [], ◌∷◌, ◌++◌, append_assoc, append-nil, map, ℕ, ◌+◌, ◌-◌, ◌*◌, ◌<◌, ◌≤◌, zero-le, add-one, arith, length, take, get_or, length-append, take-suc}
+use Rattle.std.specs.Int.{w64, to_be_bytes}
 use Rattle.common.specs.All.{All}
 use Rattle.common.proofs.AllLaws.{all_of, all_mapped}
 use Rattle.lexer.specs.Run.{run}
-use Rattle.lexer.proofs.RunLaws.{run_stop, run_end, no_length}
+use Rattle.lexer.proofs.RunLaws.{run_take}
 use Rattle.names.specs.Name.{column_at}
 use Rattle.names.specs.Unpacked.{not_space, columns_of, unpacked}
-use Rattle.names.proofs.UnpackedLaws.{unpacked-length, column_among}
+use Rattle.names.proofs.ColumnLaws.{column_byte}
+use Rattle.names.proofs.UnpackedLaws.{unpacked-length}
 use Rattle.columns.specs.Texts.{spaced, before}
 use Rattle.columns.specs.Writing.{Writes}
 use Rattle.columns.proofs.WriteLaws.{writes_none, writes_then, writes_same}
 
--- the first i columns of a name are written, and none of them is a space
-pub record Spelling (n at : ℕ) (lent now : List ℕ) (next i : ℕ) : Type 0 where
-  pub within : i ≤ 8
-  pub written : Writes at (take i (columns_of n)) lent now next
-  pub left : unpacked n ≡ take i (columns_of n) ++ run not_space (drop i (columns_of n))
+-- the bytes of a number, the highest first, are the columns of the name
+name_bytes : (n : ℕ) → to_be_bytes w64 n ≡ columns_of n
+unfolding column_at
+name_bytes n =
+    ap (λ (b : ℕ). column_at n 0 ∷ column_at n 1 ∷ column_at n 2 ∷ column_at n 3 ∷ column_at n 4 ∷ column_at n 5 ∷ column_at n 6 ∷ b ∷ []) (column_byte n 7)
 
-pub spelling_start : (n at : ℕ) (lent : List ℕ) → Spelling n at lent lent at 0
+-- the bytes before the first space are the name
+pub name-run : (n k : ℕ) → k ≡ length (run not_space (to_be_bytes w64 n)) → take k (to_be_bytes w64 n) ≡ unpacked n
 unfolding unpacked
-spelling_start n at lent = record { within = zero-le; written = writes_none at lent; left = refl }
-
-module _ {n at : ℕ} {lent now : List ℕ} {next i : ℕ} (w : Spelling n at lent now next i) where
-  pub spelling_more : {after : List ℕ} {p b : ℕ} → i < 8 → b ≡ column_at n i → (b ≡ 32 → ⊥) → Writes next (b ∷ []) now after p → Spelling n at lent after p (i + 1)
-  unfolding run not_space
-  spelling_more {after} {p} {b} h q k a =
-      let cols = columns_of n in
-      let e : get_or cols i 0 ≡ b = column_among n i h ∙ sym q in
-      let t : take (i + 1) cols ≡ take i cols ++ (b ∷ []) = rw add-one (take-suc cols i 0 h ∙ ap (λ (x : ℕ). take i cols ++ (x ∷ [])) e) in
-      let d : run not_space (drop i cols) ≡ b ∷ run not_space (drop (i + 1) cols) =
-      rw add-one (ap (run not_space) (drop-cons cols i 0 h ∙ ap (λ (x : ℕ). x ∷ drop (suc i) cols) e) ∙ ap (λ (p : Bool). cond (not p) (b ∷ run not_space (drop (suc i) cols)) []) (ne_eqb b 32 k)) in
-      record {
-        within = omega arith;
-        written = writes_same (sym t) (writes_then w.written a);
-        left =
-            w.left ∙ ap (λ (v : List ℕ). take i cols ++ v) d
-            ∙ sym (append_assoc (take i cols) (b ∷ []) (run not_space (drop (i + 1) cols)))
-            ∙ ap (λ (v : List ℕ). v ++ run not_space (drop (i + 1) cols)) (sym t);
-      }
-
-  spelling_stop : length (run not_space (drop i (columns_of n))) ≡ 0 → Writes at (unpacked n) lent now next
-  spelling_stop e =
-      let cols = columns_of n in
-      writes_same (sym (append-nil (take i cols)) ∙ ap (λ (v : List ℕ). take i cols ++ v) (sym (no_length _ e)) ∙ sym w.left) w.written
-
-  -- a space, or the last column, ends the name
-  pub spelling_space : {b : ℕ} → i < 8 → b ≡ column_at n i → b ≡ 32 → Writes at (unpacked n) lent now next
-  unfolding not_space
-  spelling_space h q e =
-      let cols = columns_of n in
-      spelling_stop (run_stop not_space cols i h (ap not (eq-eqb (get_or cols i 0) 32 (column_among n i h ∙ sym q ∙ e))))
-
-  pub spelling_end : 8 ≤ i → Writes at (unpacked n) lent now next
-  spelling_end h = spelling_stop (run_end not_space (columns_of n) i h)
+name-run n k e = ap (λ (m : ℕ). take m (to_be_bytes w64 n)) e ∙ run_take not_space (to_be_bytes w64 n) ∙ ap (run not_space) (name_bytes n)
 
 before-append : (ns : List ℕ) (n : ℕ) → before (map unpacked (ns ++ (n ∷ []))) ≡ before (map unpacked ns) ++ (32 ∷ unpacked n)
 unfolding before

@@ -22,15 +22,9 @@ pub fn text(out: &mut [u8], at: usize, bytes: &[u8]) -> usize
 pub fn word(out: &mut [u8], at: usize, name: u64) -> usize
     ensures { Writes at (unpacked name) out.old out.new result }
 {
-    let mut next = at;
-    for i in 0..8 {
-        let b = names::column(name, i);
-        if b == b' ' {
-            return next;
-        }
-        next = put(out, next, b);
-    }
-    next
+    let columns = name.to_be_bytes();
+    let len = columns.iter().take_while(|b| **b != b' ').count();
+    text(out, at, &columns[..len])
 }
 
 // Names with a space before each.

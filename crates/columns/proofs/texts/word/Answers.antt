@@ -1,25 +1,18 @@
--- `word` meets its contract: the columns before i are written, and none is a space. What falls is the columns left.
+-- `word` meets its contract: the columns before the first space are counted, and written.
 -- Assumes nothing.
-use Rattle.columns.proofs.WriteLaws.{writes_length}
-use Rattle.columns.proofs.WordLaws.{spelling_start, spelling_more, spelling_space, spelling_end}
+use Rattle.std.proofs.Common.{rules, tests}
+use Rattle.std.proofs.lemmas.Iterator.{YieldsList-from_slice}
+use Rattle.std.proofs.lemmas.Iterator.Consumers.{count_from_yields_List}
+use Rattle.std.proofs.lemmas.Iterator.Search.{YieldsList-from_take_while}
+use Rattle.lexer.proofs.RunLaws.{counted}
+use Rattle.names.specs.Unpacked.{not_space}
+use Rattle.columns.proofs.WriteLaws.{writes_same}
+use Rattle.columns.proofs.WordLaws.{name-run}
 use Rattle.columns.proofs.texts.word.Goals as goal
 
-pub loop-i-init : goal.loop-i-init
-loop-i-init c = spelling_start _ _ _
-
-pub shape_of-out-then-b-eq32 : goal.shape_of-out-then-b-eq32
-shape_of-out-then-b-eq32 c = writes_length c.loop-i.invariant.written
-
-pub returns-then-b-eq32 : goal.returns-then-b-eq32
-returns-then-b-eq32 c =
-    spelling_space c.loop-i.invariant c.loop-i-test.true c.column-b.ensures c.if-b-eq32.true
-
-pub loop-i-preserved : goal.loop-i-preserved
-loop-i-preserved c =
-    spelling_more c.loop-i.invariant c.loop-i-test.true c.column-b.ensures c.if-b-eq32.false c.put-next.ensures
-
-pub shape_of-out : goal.shape_of-out
-shape_of-out c = writes_length c.loop-i.invariant.written
-
 pub returns : goal.returns
-returns c = spelling_end c.loop-i.invariant c.loop-i-test.false
+unfolding not_space
+returns c =
+    let s = c.to_be_bytes-columns.result in
+    let n = counted not_space s _ (count_from_yields_List c.take_while.result _ c.count-len.ensures.ran (YieldsList-from_take_while _ not_space (YieldsList-from_slice s cc) c.take_while.ensures.closure c.take_while.ensures.done (λ x b q k. search (rules, tests)))) in
+    writes_same (rw c.to_be_bytes-columns.ensures (name-run c.args.name _ (rw c.to_be_bytes-columns.ensures at n))) c.text.ensures
