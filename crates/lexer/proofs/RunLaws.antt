@@ -1,6 +1,6 @@
 -- Laws of the longest run and of what is left after it. Each holds for any test of a byte.
 -- Assumes nothing.
-use Rattle.std.proofs.Common.{◌≡◌, refl, ap, sym, ◌∙◌, Bool, true, false, cond, List, [], ◌∷◌, ℕ, zero, suc, ◌+◌, ◌-◌, ◌<◌, ◌≤◌, zero-le, suc-le-suc, le_of_suc-le-suc, not-suc-le-zero, add-one, arith, length, take, drop, get_or, length-drop, take_all}
+use Rattle.std.proofs.Common.{◌≡◌, refl, ap, sym, ◌∙◌, Bool, true, false, cond, List, [], ◌∷◌, ℕ, zero, suc, ◌+◌, ◌-◌, ◌<◌, ◌≤◌, zero-le, suc-le-suc, le_of_suc-le-suc, not-suc-le-zero, arith, length, take, drop, get_or, length-drop, take_all}
 use Rattle.std.specs.List.{prefix_len}
 use Rattle.std.proofs.lemmas.List.Folds.{length-prefix_len}
 use Rattle.lexer.specs.Run.{run, after}
@@ -17,23 +17,6 @@ module _ (p : ℕ → Bool) where
   run_more [] i h e = absurd (not-suc-le-zero h)
   run_more (b ∷ s) zero h e = ap (λ (q : Bool). length (cond q (b ∷ run p s) [])) e
   run_more (b ∷ s) (suc i) h e = run_more s i (le_of_suc-le-suc h) e
-
-  pub run_more_one : (s : List ℕ) (i : ℕ) → i < length s → p (get_or s i 0) ≡ true → length (run p (drop i s)) ≡ suc (length (run p (drop (i + 1) s)))
-  run_more_one s i h e = rw add-one (run_more s i h e)
-
-  -- a byte that fails ends the run
-  pub run_stop : (s : List ℕ) (i : ℕ) → i < length s → p (get_or s i 0) ≡ false → length (run p (drop i s)) ≡ 0
-  unfolding run
-  run_stop [] i h e = absurd (not-suc-le-zero h)
-  run_stop (b ∷ s) zero h e = ap (λ (q : Bool). length (cond q (b ∷ run p s) [])) e
-  run_stop (b ∷ s) (suc i) h e = run_stop s i (le_of_suc-le-suc h) e
-
-  pub run_end : (s : List ℕ) (i : ℕ) → length s ≤ i → length (run p (drop i s)) ≡ 0
-  unfolding run
-  run_end [] zero h = refl
-  run_end [] (suc i) h = refl
-  run_end (b ∷ s) zero h = absurd (not-suc-le-zero h)
-  run_end (b ∷ s) (suc i) h = run_end s i (le_of_suc-le-suc h)
 
   pub run_length : (s : List ℕ) → length (run p s) ≤ length s
   unfolding run

@@ -64,10 +64,6 @@ pub last-all : (s : List ℕ) → last (length s) s ≡ s
 unfolding last
 last-all s = rw (sub_self (length s)) refl
 
-pub last-length : (n : ℕ) (s : List ℕ) → n ≤ length s → length (last n s) ≡ n
-unfolding last
-last-length n s h = simp length-drop (omega arith)
-
 -- what is left of a list's end is the list's own end
 pub last-drop : (k n : ℕ) (s : List ℕ) → k + n ≡ length s → drop k s ≡ last n s
 unfolding last

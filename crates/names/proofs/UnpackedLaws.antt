@@ -11,18 +11,6 @@ use Rattle.names.specs.Unpacked.{not_space, columns_of, unpacked}
 use Rattle.names.proofs.ColumnLaws.{column_packed}
 use Rattle.names.proofs.NameLaws.{name_packable}
 
--- the columns one by one
-pub column_among : (n i : ℕ) → i < 8 → get_or (columns_of n) i 0 ≡ column_at n i
-column_among n zero h = refl
-column_among n (suc zero) h = refl
-column_among n (suc (suc zero)) h = refl
-column_among n (suc (suc (suc zero))) h = refl
-column_among n (suc (suc (suc (suc zero)))) h = refl
-column_among n (suc (suc (suc (suc (suc zero))))) h = refl
-column_among n (suc (suc (suc (suc (suc (suc zero)))))) h = refl
-column_among n (suc (suc (suc (suc (suc (suc (suc zero))))))) h = refl
-column_among n (suc (suc (suc (suc (suc (suc (suc (suc i)))))))) h = absurd (omega arith)
-
 -- a packed name has at most eight bytes, whatever number it is
 pub unpacked-length : (n : ℕ) → length (unpacked n) ≤ 8
 unfolding unpacked
