@@ -1,4 +1,4 @@
--- `slot` meets its contract: the ways out that the laws of its attribute do not close alone.
+-- `slot` meets its contract: the one way out that the laws named at the function do not close alone.
 -- Assumes nothing.
 use Rattle.std.proofs.Common.{arith, ltb-true}
 use Rattle.chain.proofs.FillLaws.{slot_none}
