@@ -9,7 +9,7 @@ import glob
 import re
 import sys
 
-ITEM = re.compile(r"^( *)(?:pub )?(?:unsafe )?(?:extern \"C\" )?(fn|struct|enum) ([A-Za-z_0-9]+)", re.M)
+ITEM = re.compile(r"^( *)(?:pub )?(?:unsafe )?(?:extern \"s\" )?(fn|struct|enum) ([A-Za-z_0-9]+)", re.M)
 found = collections.OrderedDict()
 
 

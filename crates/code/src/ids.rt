@@ -10,6 +10,7 @@ pub const UNHELD: u8 = 127;
 const IDS: usize = 127;
 
 // The id of a name: its place among those held, where that is an id of seven bits.
+// Kept: `as`, after the test that makes it exact. By `u8::try_from` the same answer has one case more and the same test.
 pub fn id_of(word: &[u8], names: &[u64]) -> u8
     ensures { result ≡ id_of names.now word.now }
 {
