@@ -1,4 +1,4 @@
--- One more whole record, answered after those before it.
+-- One more whole record, answered after those before it; and where all that is handed on ends.
 -- Assumes nothing.
 use Rattle.std.proofs.Common.{◌≡◌, ℕ, ◌+◌, Bool, true, List, [], ◌∷◌, ◌++◌, length, refl, sym, subst, ap, ◌∙◌, Option, Some, None, length-append, append-nil}
 use Rattle.std.specs.List.{concat}
@@ -8,7 +8,8 @@ use Rattle.std.specs.Fn.{CalledAt, Mut}
 use Rattle.std.specs.Io.KnownBytes.{Consumes}
 use Rattle.std.proofs.KnownBytes.{Consumes-trans}
 use denote.Ref.{Bor}
-use Rattle.input.specs.Records.{AnswersWhole, WholeAnswered}
+use Rattle.input.specs.Records.{AnswersWhole, WholeAnswered, StopsAt, HandedOn}
+use Rattle.input.specs.declared.records.Stop.{Stop}
 
 -- where nothing is read, every byte is left
 pub nothing_read : (file : Option (List ℕ)) → Consumes file file []
@@ -29,3 +30,8 @@ module _ {F : Type 0} (g : Mut F (Bor (List ℕ) × Unit {0}) Bool) where
     bytes = subst (Consumes before after) (sym (concat-append w.whole (s ∷ []) ∙ ap (λ l. concat w.whole ++ l) (append-nil s))) (Consumes-trans before mid after (concat w.whole) s w.bytes read);
     answered = FoldsTo-push (AnswersWhole g) f w.whole f' s f'' w.answered (long, called);
   }
+
+  -- the whole records, and what was read after them
+  pub handed_on : {f left : F} {before between after : Option (List ℕ)} {n : ℕ} (last : List ℕ) {stop : Stop} → WholeAnswered g f before between n left → Consumes between after last
+      → StopsAt g after n left last stop → HandedOn g f before after stop
+  handed_on last first read ends = record { n = _; left = _; between = _; first = first; last = last; bytes = read; stops = ends }

@@ -1,5 +1,5 @@
 use Rattle.std.proofs.Common.{◌≡◌, [], length, take, refl, rules, arith, of_calls}
-use Rattle.input.proofs.RecordLaws.{whole_none, whole_more, nothing_read}
+use Rattle.input.proofs.RecordLaws.{whole_none, whole_more, nothing_read, handed_on}
 use Rattle.input.proofs.records.each_record.Goals as goal
 
 pub loop-count-init : goal.loop-count-init
@@ -15,45 +15,24 @@ loop-count-preserved g c =
     }
 
 pub returns-then-len-eq0 : goal.returns-then-len-eq0
-returns-then-len-eq0 g c = record {
-  n = _;
-  left = _;
-  between = _;
-  first = c.loop-count.invariant.so_far;
-  last = _;
-  bytes = c.in_ok-len.ensures.bytes;
-  stops = (omega (arith, c.in_ok-len.ensures.count), c.in_ok-len.ensures.end (omega arith), λ some. absurd (omega (arith, c.in_ok-len.ensures.count)));
-}
+returns-then-len-eq0 g c =
+    let read = c.in_ok-len.ensures in
+    handed_on g.F.FnMut _ c.loop-count.invariant.so_far read.bytes (omega (arith, read.count), read.end (omega arith), λ some. absurd (omega (arith, read.count)))
 
 pub returns-then-not-written : goal.returns-then-not-written
-returns-then-not-written g c = record {
-  n = _;
-  left = _;
-  between = _;
-  first = c.loop-count.invariant.so_far;
-  last = _;
-  bytes = c.in_ok-len.ensures.bytes;
-  stops = (omega (arith, c.in_ok-len.ensures.count), (let room : length c.next.new.bytes ≡ 128 = search rules in omega (arith, c.in_ok-len.ensures.count)), (λ short. c.in_ok-len.ensures.end (omega (arith, c.in_ok-len.ensures.count))), (_, record { shown = _; shows = refl; called = rw c.if-not-written.true at c.answer-written.ensures }));
-}
+returns-then-not-written g c =
+    let read = c.in_ok-len.ensures in
+    let room : length c.next.new.bytes ≡ 128 = search rules in
+    let unwritten = rw c.if-not-written.true at c.answer-written.ensures in
+    handed_on g.F.FnMut _ c.loop-count.invariant.so_far read.bytes
+    (omega (arith, read.count), omega (arith, read.count), (λ short. read.end (omega (arith, read.count))), (_, record { shown = _; shows = refl; called = unwritten }))
 
 pub returns-then-len-lt128 : goal.returns-then-len-lt128
-returns-then-len-lt128 g c = record {
-  n = _;
-  left = _;
-  between = _;
-  first = c.loop-count.invariant.so_far;
-  last = _;
-  bytes = c.in_ok-len.ensures.bytes;
-  stops = (omega (arith, c.in_ok-len.ensures.count), c.in_ok-len.ensures.end (omega arith), λ some. (_, record { shown = _; shows = refl; called = rw c.if-not-written.false at c.answer-written.ensures }));
-}
+returns-then-len-lt128 g c =
+    let read = c.in_ok-len.ensures in
+    let written = rw c.if-not-written.false at c.answer-written.ensures in
+    handed_on g.F.FnMut _ c.loop-count.invariant.so_far read.bytes
+    (omega (arith, read.count), read.end (omega arith), λ some. (_, record { shown = _; shows = refl; called = written }))
 
 pub returns : goal.returns
-returns g c = record {
-  n = _;
-  left = _;
-  between = _;
-  first = c.loop-count.invariant.so_far;
-  last = [];
-  bytes = nothing_read _;
-  stops = (refl, omega arith);
-}
+returns g c = handed_on g.F.FnMut _ c.loop-count.invariant.so_far (nothing_read _) (refl, omega arith)
