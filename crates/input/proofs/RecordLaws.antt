@@ -1,6 +1,6 @@
--- One more whole record, answered after those before it; and where all that is handed on ends.
+-- One more whole record, answered after those before it.
 -- Assumes nothing.
-use Rattle.std.proofs.Common.{◌≡◌, ℕ, ◌+◌, Bool, true, List, [], ◌∷◌, ◌++◌, length, refl, sym, subst, ap, ◌∙◌, Option, Some, None, length-append, append-nil}
+use Rattle.std.proofs.Common.{◌≡◌, ℕ, ◌+◌, Bool, true, List, [], ◌∷◌, ◌++◌, length, sym, subst, ap, ◌∙◌, Option, length-append, append-nil}
 use Rattle.std.specs.List.{concat}
 use Rattle.std.proofs.lemmas.Fn.{FoldsTo-push}
 use Rattle.std.proofs.lemmas.List.Folds.{concat-append}
@@ -8,19 +8,9 @@ use Rattle.std.specs.Fn.{CalledAt, Mut}
 use Rattle.std.specs.Io.KnownBytes.{Consumes}
 use Rattle.std.proofs.KnownBytes.{Consumes-trans}
 use denote.Ref.{Bor}
-use Rattle.input.specs.Records.{AnswersWhole, WholeAnswered, StopsAt, HandedOn}
-use Rattle.input.specs.declared.records.Stop.{Stop}
-
--- where nothing is read, every byte is left
-pub nothing_read : (file : Option (List ℕ)) → Consumes file file []
-nothing_read None = tt
-nothing_read (Some xs) = refl
+use Rattle.input.specs.Records.{AnswersWhole, WholeAnswered}
 
 module _ {F : Type 0} (g : Mut F (Bor (List ℕ) × Unit {0}) Bool) where
-  -- none so far
-  pub whole_none : (f : F) (before : Option (List ℕ)) → WholeAnswered g f before before 0 f
-  whole_none f before = record { whole = []; count = refl; bytes = nothing_read before; answered = refl }
-
   -- one more
   pub whole_more : (f : F) (before mid after : Option (List ℕ)) (n : ℕ) (f' f'' : F) (s : List ℕ) → WholeAnswered g f before mid n f'
       → Consumes mid after s → length s ≡ 128 → CalledAt g f' s true f'' → WholeAnswered g f before after (n + 1) f''
@@ -30,8 +20,3 @@ module _ {F : Type 0} (g : Mut F (Bor (List ℕ) × Unit {0}) Bool) where
     bytes = subst (Consumes before after) (sym (concat-append w.whole (s ∷ []) ∙ ap (λ l. concat w.whole ++ l) (append-nil s))) (Consumes-trans before mid after (concat w.whole) s w.bytes read);
     answered = FoldsTo-push (AnswersWhole g) f w.whole f' s f'' w.answered (long, called);
   }
-
-  -- the whole records, and what was read after them
-  pub handed_on : {f left : F} {before between after : Option (List ℕ)} {n : ℕ} (last : List ℕ) {stop : Stop} → WholeAnswered g f before between n left → Consumes between after last
-      → StopsAt g after n left last stop → HandedOn g f before after stop
-  handed_on last first read ends = record { n = _; left = _; between = _; first = first; last = last; bytes = read; stops = ends }

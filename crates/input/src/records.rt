@@ -1,4 +1,6 @@
 // The records of an open file.
+//
+// Kept: a record's 128 bytes are written as a number. `common` has the constant RECORD_SIZE, and this crate builds on no other.
 ghost use Rattle.std.specs.Prelude.{◌≡◌, ◌<◌, IfOk, length, take};
 ghost use Rattle.std.specs.Io.KnownBytes.{Consumes, IsAtEnd};
 ghost use Rattle.input.specs.Records.{IsPrefixLen, HandedOn};
@@ -61,6 +63,7 @@ pub fn each_record<R: Read, F: FnMut(&[u8]) -> bool>(
     requires { F.IsAlwaysCallable answer }
     ensures { IfOk result (λ stop. HandedOn F.FnMut answer (R.remaining file.old) (R.remaining file.new) stop) }
 {
+    // Kept: a counted loop, since a proved loop has to end and nothing says that a file does. The proof alone reads `count`.
     for count in 0..u64::MAX {
         let mut bytes = [0u8; 128];
         let len = next(file, &mut bytes)?;
