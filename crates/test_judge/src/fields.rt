@@ -12,8 +12,8 @@ pub fn decimal(digits: &[u8]) -> usize {
 }
 
 // The bytes from one place to another; all, where there are fewer.
-pub fn field(s: &[u8], from: usize, to: usize) -> &[u8] {
-    s.get(from..to).unwrap_or(s)
+pub fn field(bytes: &[u8], from: usize, to: usize) -> &[u8] {
+    bytes.get(from..to).unwrap_or(bytes)
 }
 
 // Reads a list of `len` bytes to the start of a buffer, and answers how many there were; none where there is no room for them.

@@ -2,6 +2,7 @@
 ghost use Rattle.std.specs.Prelude.{◌≡◌, IfNone};
 
 use common::answer_number;
+use common::sizes::{RECORD_SIZE, REPLY_SIZE};
 use follow::State;
 use input::{next, read_full};
 use monitor::handle;
@@ -27,26 +28,26 @@ pub struct Compared {
     pub finding: Finding,
 }
 
-// The first place where the bytes differ, or 50.
-fn first_other(reply: &[u8; 50], stored: &[u8; 50]) -> usize {
+// The first place where the bytes differ; the end of the reply, where none does.
+fn first_other(reply: &[u8; REPLY_SIZE], stored: &[u8; REPLY_SIZE]) -> usize {
     reply
         .iter()
         .zip(stored)
         .position(|(a, b)| a != b)
-        .unwrap_or(50)
+        .unwrap_or(REPLY_SIZE)
 }
 
 // Whether a number is the one that the reply tells. "Columns 2 and 3: .. the refusal number for `R`"; "Each call also returns a number, 0 when
-// taken." The digits are bytes from 48 on, so that the two columns are 528 more than the number.
-fn tells(number: u8, reply: &[u8; 50]) -> bool {
+// taken."
+fn tells(number: u8, reply: &[u8; REPLY_SIZE]) -> bool {
     if reply[0] != b'R' {
         return number == 0;
     }
-    usize::from(reply[2]) * 10 + usize::from(reply[3]) == usize::from(number) + 528
+    reply[2] == b'0' + number / 10 && reply[3] == b'0' + number % 10
 }
 
 // What a reply and the number returned with it are found to be, by the stored reply. Nothing is found only of a reply that is the stored one.
-fn found(number: u8, reply: &[u8; 50], stored: &[u8; 50]) -> Option<Finding>
+fn found(number: u8, reply: &[u8; REPLY_SIZE], stored: &[u8; REPLY_SIZE]) -> Option<Finding>
     ensures { IfNone result (reply.now ≡ stored.now) }
 {
     if reply != stored {
@@ -60,8 +61,8 @@ fn found(number: u8, reply: &[u8; 50], stored: &[u8; 50]) -> Option<Finding>
 }
 
 // Hands a record to the monitor and compares the reply.
-fn answered(monitor: &mut State, record: &[u8], stored: &[u8; 50]) -> Option<Finding> {
-    let mut reply = [0u8; 50];
+fn answered(monitor: &mut State, record: &[u8], stored: &[u8; REPLY_SIZE]) -> Option<Finding> {
+    let mut reply = [0u8; REPLY_SIZE];
     let number = answer_number(handle(monitor, record, &mut reply));
     found(number, &reply, stored)
 }
@@ -72,9 +73,9 @@ fn next_compared(
     replies: &mut impl Read,
     monitor: &mut State,
 ) -> io::Result<Option<Finding>> {
-    let mut bytes = [0u8; 128];
+    let mut bytes = [0u8; RECORD_SIZE];
     let len = next(records, &mut bytes)?;
-    let mut stored = [0u8; 50];
+    let mut stored = [0u8; REPLY_SIZE];
     let n = read_full(replies, &mut stored)?;
     if len == 0 {
         let finding = if n == 0 {
@@ -84,7 +85,7 @@ fn next_compared(
         };
         return Ok(Some(finding));
     }
-    if n < 50 {
+    if n < REPLY_SIZE {
         return Ok(Some(Finding::RepliesEnded));
     }
     Ok(answered(monitor, &bytes[..len], &stored))
@@ -92,6 +93,7 @@ fn next_compared(
 
 // Every record, in order, from a fresh monitor on, as far as the replies are as stored. The loop has to end and nothing says that a file does,
 // so the replies are counted, to a number that no file reaches.
+// Kept: no `each_record`, as a stored reply is read beside each record, and past the last record too.
 pub fn replies_compared(records: &mut impl Read, replies: &mut impl Read) -> io::Result<Compared> {
     let mut monitor = monitor::new();
     for count in 0..u64::MAX {
