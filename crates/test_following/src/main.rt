@@ -16,19 +16,24 @@ use std::io;
 use steps::{role_declared, rule_declared};
 
 fn main(rt: HostRuntime) -> io::Result<()> {
-    let mut f = State::new();
-    sheet::declared(&rt, &mut f)?;
-    sheet::followed(&rt, &mut f)?;
-    sheet::joined(&rt, &mut f)?;
-    sheet::met(&rt, &mut f)?;
-    sheet::begun(&rt, &mut f)?;
-    sheet::refused_roles(&rt, &mut f)?;
-    sheet::refused_rules(&rt, &mut f)?;
-    sheet::longest(&rt, &mut f)?;
-    thirty(&mut f);
-    sheet::ended(&rt, &mut f)?;
-    filled(&rt, &mut f, *b"role x00 under lamp", role_declared)?;
-    sheet::full_of_roles(&rt, &mut f)?;
-    filled(&rt, &mut f, *b"rule y00: <uv>; any; pass", rule_declared)?;
-    sheet::full_of_rules(&rt, &mut f)
+    let mut state = State::new();
+    sheet::declared(&rt, &mut state)?;
+    sheet::followed(&rt, &mut state)?;
+    sheet::joined(&rt, &mut state)?;
+    sheet::met(&rt, &mut state)?;
+    sheet::begun(&rt, &mut state)?;
+    sheet::refused_roles(&rt, &mut state)?;
+    sheet::refused_rules(&rt, &mut state)?;
+    sheet::longest(&rt, &mut state)?;
+    thirty(&mut state);
+    sheet::ended(&rt, &mut state)?;
+    filled(&rt, &mut state, *b"role x00 under lamp", role_declared)?;
+    sheet::full_of_roles(&rt, &mut state)?;
+    filled(
+        &rt,
+        &mut state,
+        *b"rule y00: <uv>; any; pass",
+        rule_declared,
+    )?;
+    sheet::full_of_rules(&rt, &mut state)
 }

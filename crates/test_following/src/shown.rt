@@ -1,10 +1,12 @@
 // What is printed of a name.
+use common::sizes::NAME_SIZE;
 use std::io;
 
 // A packed name without the spaces that pad it.
-pub fn name(rt: &impl Print, n: u64) -> io::Result<()> {
-    for i in 0..8 {
-        let b = names::column(n, i);
+pub fn name(rt: &impl Print, packed: u64) -> io::Result<()> {
+    // Kept: a loop over columns, as `names` lends them one by one.
+    for i in 0..NAME_SIZE {
+        let b = names::column(packed, i);
         if b != b' ' {
             rt.write_all(&[b])?;
         }

@@ -12,11 +12,11 @@ fn refused(rt: &impl Print, refusal: Refusal) -> io::Result<()> {
 }
 
 // A role line: its name, and whether its parent is held.
-fn role(rt: &impl Print, t: &[u8], held: &[u64]) -> io::Result<()> {
-    let r = role_line(t, held);
+fn role(rt: &impl Print, text: &[u8], held: &[u64]) -> io::Result<()> {
+    let line = role_line(text, held);
     rt.write_all(b"role ")?;
-    name_shown(rt, r.name)?;
-    if r.parent.is_some() {
+    name_shown(rt, line.name)?;
+    if line.parent.is_some() {
         return rt.write_all(b", parent held");
     }
     rt.write_all(b", parent not held, refused 6")
@@ -51,41 +51,41 @@ fn verdict(rt: &impl Print, unknown: bool, fits: bool) -> io::Result<()> {
 }
 
 // A rule line: its name, the number of patterns in its past, whether its roles are held, and its code.
-fn rule(rt: &impl Print, t: &[u8], held: &[u64]) -> io::Result<()> {
-    let r = rule_line(t, held);
+fn rule(rt: &impl Print, text: &[u8], held: &[u64]) -> io::Result<()> {
+    let line = rule_line(text, held);
     rt.write_all(b"rule ")?;
-    name_shown(rt, r.name)?;
+    name_shown(rt, line.name)?;
     rt.write_all(b", patterns ")?;
-    patterns_shown(rt, &r.body)?;
-    if r.fits {
+    patterns_shown(rt, &line.body)?;
+    if line.fits {
         rt.write_all(b" fit")?;
     } else {
         rt.write_all(b" too many")?;
     }
-    verdict(rt, r.body.unknown, r.fits)?;
+    verdict(rt, line.body.unknown, line.fits)?;
     rt.write_all(b", code ")?;
-    body_shown(rt, &r.body, held)
+    body_shown(rt, &line.body, held)
 }
 
 // A line's text.
-fn line(rt: &impl Print, t: &[u8], held: &[u64]) -> io::Result<()> {
-    match line_kind(t) {
-        Some(LineKind::Role) => role(rt, t, held),
-        Some(LineKind::Rule) => rule(rt, t, held),
+fn line(rt: &impl Print, text: &[u8], held: &[u64]) -> io::Result<()> {
+    match line_kind(text) {
+        Some(LineKind::Role) => role(rt, text, held),
+        Some(LineKind::Rule) => rule(rt, text, held),
         None => refused(rt, Refusal::NotInLanguage),
     }
 }
 
 // An event's text: whether its roles are held, and their ids. The ids of a text that is refused with 6 are those of its words.
-fn event(rt: &impl Print, t: &[u8], held: &[u64]) -> io::Result<()> {
-    match event_line(t, held) {
+fn event(rt: &impl Print, text: &[u8], held: &[u64]) -> io::Result<()> {
+    match event_line(text, held) {
         Ok(event) => {
             rt.write_all(b"event, roles held, ids")?;
             roles_shown(rt, event.roles(), held)
         }
         Err(Refusal::NotDeclared) => {
             rt.write_all(b"event, role not held, refused 6, ids")?;
-            words_shown(rt, t, held)
+            words_shown(rt, text, held)
         }
         Err(refusal) => refused(rt, refusal),
     }

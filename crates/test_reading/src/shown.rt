@@ -1,4 +1,6 @@
 // What is printed: bytes, names, code and ids.
+use code::event_line;
+use common::sizes::NAME_SIZE;
 use std::io;
 
 // A printable byte as it is, and another as two hexadecimal digits in curly brackets.
@@ -10,9 +12,10 @@ pub fn byte(rt: &impl Print, b: u8) -> io::Result<()> {
 }
 
 // A packed name without the spaces that pad it.
-pub fn name_shown(rt: &impl Print, n: u64) -> io::Result<()> {
-    for i in 0..8 {
-        let b = names::column(n, i);
+pub fn name_shown(rt: &impl Print, packed: u64) -> io::Result<()> {
+    // Kept: a loop over columns, as `names` lends them one by one.
+    for i in 0..NAME_SIZE {
+        let b = names::column(packed, i);
         if b != b' ' {
             byte(rt, b)?;
         }
@@ -55,12 +58,9 @@ pub fn roles_shown(rt: &impl Print, roles: &[u8], held: &[u64]) -> io::Result<()
     Ok(())
 }
 
-// The id of a word: the place of its name among those held, and 127 where it is not held.
+// The id of a word: that of an event of this word alone, and 127 where its name is not held.
 fn id_of(word: &[u8], held: &[u64]) -> u8 {
-    match names::find(held, names::pack(word)) {
-        Some(place) => place.min(127) as u8,
-        None => 127,
-    }
+    event_line(word, held).map_or(127, |event| event.roles[0])
 }
 
 // The ids of the words of a text, each with its name. Spaces stand between words, one or more.
