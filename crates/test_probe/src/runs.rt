@@ -3,8 +3,8 @@ use crate::events::next;
 use follow::{State, matches};
 
 // Whether rule 0's past matches now.
-fn first_matches(f: &State) -> bool {
-    0 < f.sheet.rule_count && matches(&f.sheet.ends, &f.positions, 0)
+fn first_matches(state: &State) -> bool {
+    0 < state.sheet.rule_count && matches(&state.sheet.ends, &state.positions, 0)
 }
 
 // Into out[k]: whether rule 0's past matches after k events of the list.
@@ -37,14 +37,18 @@ pub fn committed(state: &mut State, events: &[u8], rounds: u32) {
 }
 
 // A number made from all rules' positions, in their order.
-pub fn digest(f: &State) -> u64 {
-    f.positions
+pub fn digest(state: &State) -> u64 {
+    state
+        .positions
         .iter()
-        .take(f.sheet.rule_count)
+        .take(state.sheet.rule_count)
         .fold(0, |sum, positions| mixed(sum, *positions))
 }
 
+// One past 56 bits.
+const CUT: u64 = 1 << 56;
+
 // A rule's positions mixed into the digest; both are cut to 56 bits, so that nothing wraps.
 fn mixed(sum: u64, positions: u64) -> u64 {
-    sum % 72057594037927936 * 31 + positions % 72057594037927936
+    sum % CUT * 31 + positions % CUT
 }
