@@ -55,7 +55,8 @@ pub fn next<R: Read>(file: &mut R, bytes: &mut [u8; 128]) -> io::Result<usize>
 }
 
 // Hands every record of the file to `answer`, in order, a short last one as it is. `answer` says whether its answer could be written; it stops
-// only there, at a record that is not whole, or where as many are answered as 64 bits count. A read that fails is an error, and what it brought is not handed on.
+// only there, at a record that is not whole, or where as many are answered as 64 bits count. A read that fails is an error, and what it brought is
+// not handed on.
 pub fn each_record<R: Read, F: FnMut(&[u8]) -> bool>(
     file: &mut R,
     mut answer: F,

@@ -23,9 +23,9 @@ use numbers::{answered, refused};
 use round::run_round;
 use sessions::Session;
 
-// A batch on the monitor that a host holds as an image: the first `used` records of the image buffer are restored, the batch is run, and the image buffer is rewritten; its bytes
-// past the new image stay. Answers the refusal's number times 4,294,967,296 plus the used number: 0 and the new one; or 13, 12 or 11, looked at in this order, with all buffers
-// as lent and `used` as it was passed.
+// A batch on the monitor that a host holds as an image: the first `used` records of the image buffer are restored, the batch is run, and the image
+// buffer is rewritten; its bytes past the new image stay. Answers the refusal's number times 4,294,967,296 plus the used number: 0 and the new one;
+// or 13, 12 or 11, looked at in this order, with all buffers as lent and `used` as it was passed.
 pub fn stand_run(image: &mut [u8], used: u32, records: &[u8], replies: &mut [u8]) -> u64
     ensures { StandRuns image.old used records.now replies.old image.new replies.new result }
 {
@@ -59,9 +59,10 @@ pub fn stand_session(
     0
 }
 
-// A whole session of operations from a fresh monitor. Operation k is a single call where kinds[k] is 0, a batch where it is 1, keeping where it is 2 and restoring where it is
-// 3; it has the next lengths[k] bytes of `records` and the next sizes[k] bytes of `replies`, its number goes to numbers[k] and how many records keeping wrote to counts[k].
-// Keeping looks at no record, and restoring writes no reply. Answers 0; or 11, where a kind is another, the counts differ or the sizes do not add up to the buffers.
+// A whole session of operations from a fresh monitor. Operation k is a single call where kinds[k] is 0, a batch where it is 1, keeping where it is 2
+// and restoring where it is 3; it has the next lengths[k] bytes of `records` and the next sizes[k] bytes of `replies`, its number goes to numbers[k]
+// and how many records keeping wrote to counts[k]. Keeping looks at no record, and restoring writes no reply. Answers 0; or 11, where a kind is
+// another, the counts differ or the sizes do not add up to the buffers.
 pub fn stand_operations(
     kinds: &[u8],
     records: &[u8],
@@ -96,5 +97,6 @@ pub fn stand_judge(sheet: &[u8], number: u32, records: &[u8]) -> u64
         return refused(Refusal::BatchLength);
     }
     let monitor = after(sheet);
+    // Kept: a cast. `usize` has no `From<u32>`, and `try_from` would make a refusal that cannot happen.
     answered(SheetView::from(&monitor.sheet).judge(number as usize, records))
 }

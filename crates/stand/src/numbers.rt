@@ -4,14 +4,14 @@ ghost use Rattle.stand.specs.Numbers.{refused, answered};
 
 use common::Refusal;
 
-// One past 32 bits: what a refusal's number is multiplied by.
-pub const SHIFT: u64 = 4294967296;
+// One of the upper half: the factor of a refusal's number.
+pub const FACTOR: u64 = 1 << 32;
 
 // A refusal.
 pub fn refused(refusal: Refusal) -> u64
     ensures { result ≡ refused refusal }
 {
-    u64::from(refusal.number()) * SHIFT
+    u64::from(refusal.number()) * FACTOR
 }
 
 // The judge's answer: 1 for yes and 0 for no, or its refusal.

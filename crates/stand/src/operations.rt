@@ -63,7 +63,7 @@ pub fn operation_at(kinds: &[u8], k: usize) -> Operation
 }
 
 // A count in its place, where there is one.
-// Kept: written through `get_mut`, the proof knows nothing of the slice afterwards.
+// Kept: after a write through a slice's `get_mut` a proof knows how long the slice is, and none of its elements.
 pub fn put_count(counts: &mut [u32], k: usize, n: u32)
     ensures { counts.new ≡ set counts.old k n }
 {
@@ -83,10 +83,7 @@ pub fn written(answer: Result<u32, Refusal>) -> u32
 fn uncounted(answer: Result<(), Refusal>) -> Result<u32, Refusal>
     ensures { result ≡ uncounted answer }
 {
-    match answer {
-        Ok(()) => Ok(0),
-        Err(refusal) => Err(refusal),
-    }
+    answer.map(|()| 0)
 }
 
 // One operation: keeping into the reply buffer, restoring from the records, a batch, or a single call. Answers how many records it wrote, which keeping

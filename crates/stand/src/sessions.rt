@@ -7,8 +7,8 @@ use crate::operations::{all_known, operate, operation_at, put_count, written};
 use crate::sizes::fits;
 use common::answer_number;
 
-// What a host hands over to be read: a kind for each operation, and past the last kind single calls; the records one after the other; and how many bytes of the records
-// and of the replies each operation has.
+// What a host hands over to be read: a kind for each operation, and past the last kind single calls; the records one after the other; and how many
+// bytes of the records and of the replies each operation has.
 #[derive(Clone, Copy)]
 pub struct Session<'a> {
     pub kinds: &'a [u8],
@@ -43,12 +43,14 @@ impl<'a> Session<'a> {
     // The operations in turn, each on the monitor that the one before left and on its own part of the reply buffer.
     pub fn run(&self, replies: &mut [u8], numbers: &mut [u8], counts: &mut [u32])
         requires { Fit self.now.records.now self.now.lengths.now self.now.sizes.now replies.old numbers.old }
-        ensures { OperationsAnswered self.now.kinds.now self.now.records.now self.now.lengths.now self.now.sizes.now replies.old replies.new numbers.new counts.old counts.new }
+        ensures { OperationsAnswered self.now.kinds.now self.now.records.now self.now.lengths.now self.now.sizes.now
+            replies.old replies.new numbers.new counts.old counts.new }
     {
         let mut monitor = monitor::new();
         let mut at = 0;
         let mut to = 0;
         for (k, length) in self.lengths.iter().enumerate() {
+            // Kept: casts. `usize` has no `From<u32>`, and `try_from` would make a refusal that cannot happen.
             let end = at + *length as usize;
             let past = to + self.sizes[k] as usize;
             let operation = operation_at(self.kinds, k);

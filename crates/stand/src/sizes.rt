@@ -8,6 +8,7 @@ pub fn fits(sizes: &[u32], len: usize) -> bool
 {
     let mut left = len;
     for size in sizes {
+        // Kept: a cast. `usize` has no `From<u32>`, and `try_from` would make a refusal that cannot happen.
         let Some(after) = left.checked_sub(*size as usize) else {
             return false;
         };

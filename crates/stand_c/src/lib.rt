@@ -1,4 +1,5 @@
-// The library's calls under their C names: `rt lib` makes a static library of them, and include/stand.h is its header. A slice passes as a pointer and a length.
+// The library's calls under their C names: `rt lib` makes a static library of them, and include/stand.h is its header. A slice passes as a pointer and
+// a length.
 //
 // Each call is one of the crate `stand`, with the same promise.
 #![tactic(auto)]
