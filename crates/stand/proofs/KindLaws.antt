@@ -1,7 +1,8 @@
 -- Kinds of operations, and what a host that names none hands over.
 -- Assumes nothing.
-use Rattle.std.proofs.Common.{◌≡◌, Result, Ok, Err, Bool, true, false, not, ◌&&◌, ℕ, zero, suc, ◌+◌, ◌≤◌, ◌<◌, List, [], ◌∷◌, ◌++◌, map, length, take, drop, get_or, eqb, leb, refl, sym, ap, ◌∙◌, subst, arith, is_err, drop_of_length-le, eqb-true, eq-eqb, ne_eqb}
-use borrow.Author.Tests.{lt-leb, not-true, not-false}
+use Rattle.std.proofs.Common.{◌≡◌, Result, Ok, Err, true, false, ℕ, zero, suc, List, [], ◌∷◌, ◌++◌, map, length, take, drop, eqb, leb, refl, sym, ap, ◌∙◌, subst, arith, is_ok, eqb-true, eq-eqb, ne_eqb}
+use Rattle.std.specs.List.{list_all}
+use borrow.Author.Tests.{lt-leb}
 use Rattle.common.proofs.Bools.{and_left, and_right, and_both, true_not_false}
 use Rattle.follow.specs.declared.state.State.{State}
 use Rattle.book.specs.Decide.{Answer}
@@ -23,38 +24,24 @@ use Rattle.stand.specs.Calls.{calls_of, book_answers, Fit, all_fit, SessionAnswe
 use Rattle.stand.specs.Done.{Done, done_of, uncounted}
 use Rattle.stand.specs.declared.operations.Operation.{Operation}
 use Rattle.stand.specs.Kinds.{kind_of, named_by, operations_fit, Named, parts_of, operations_of, all_known, number_in, buffers_of, DoneAs, book_results, OperationsFit, OperationsAnswered, OperationsRun}
-use Rattle.stand.proofs.SizeLaws.{drop_here, fit_told, told_fit}
+use Rattle.stand.proofs.SizeLaws.{fit_told, told_fit}
 
 -- WHETHER ALL ARE KNOWN
 
--- the kinds that name no operation are those above 3
-pub names_none : (k : ℕ) → is_err (named_by k) ≡ not (leb k 3)
-names_none zero = refl
-names_none (suc zero) = refl
-names_none (suc (suc zero)) = refl
-names_none (suc (suc (suc zero))) = refl
-names_none (suc (suc (suc (suc k)))) =
+-- the kinds that name an operation are those up to 3
+names_one : (k : ℕ) → is_ok (named_by k) ≡ leb k 3
+names_one zero = refl
+names_one (suc zero) = refl
+names_one (suc (suc zero)) = refl
+names_one (suc (suc (suc zero))) = refl
+names_one (suc (suc (suc (suc k)))) =
     let n : ℕ = suc (suc (suc (suc k))) in
     rw (ne_eqb n 0 (λ e. absurd (omega arith)), ne_eqb n 1 (λ e. absurd (omega arith)), ne_eqb n 2 (λ e. absurd (omega arith)), ne_eqb n 3 (λ e. absurd (omega arith)), lt-leb n 3 (omega arith)) refl
 
--- no kind but these before k, and the one here is none
-pub unknown_here : (l : List ℕ) (k : ℕ) → k < length l → all_known l ≡ all_known (drop k l) → is_err (named_by (get_or l k 0)) ≡ true → false ≡ all_known l
+pub known_all : (l : List ℕ) → all_known l ≡ list_all (λ k. is_ok (named_by k)) l
 unfolding all_known
-unknown_here l k more inv h =
-    let none : leb (get_or l k 0) 3 ≡ false = not-true (leb (get_or l k 0) 3) (sym (names_none (get_or l k 0)) ∙ h) in
-    sym (inv ∙ ap all_known (drop_here k l more) ∙ ap (λ (q : Bool). q && all_known (drop (k + 1) l)) none)
-
--- one more is known
-pub known_here : (l : List ℕ) (k : ℕ) → k < length l → all_known l ≡ all_known (drop k l) → is_err (named_by (get_or l k 0)) ≡ false → all_known l ≡ all_known (drop (k + 1) l)
-unfolding all_known
-known_here l k more inv h =
-    let one : leb (get_or l k 0) 3 ≡ true = not-false (leb (get_or l k 0) 3) (sym (names_none (get_or l k 0)) ∙ h) in
-    inv ∙ ap all_known (drop_here k l more) ∙ ap (λ (q : Bool). q && all_known (drop (k + 1) l)) one
-
--- all are
-pub known-all : (l : List ℕ) (k : ℕ) → length l ≤ k → all_known l ≡ all_known (drop k l) → true ≡ all_known l
-unfolding all_known
-known-all l k end inv = sym (inv ∙ ap all_known (drop_of_length-le l end))
+known_all [] = refl
+known_all (k ∷ l) = rw (names_one k, known_all l) refl
 
 -- WHETHER ALL FIT
 

@@ -40,12 +40,7 @@ impl TryFrom<u8> for Operation {
 pub fn all_known(kinds: &[u8]) -> bool
     ensures { result ≡ all_known kinds.now }
 {
-    for kind in kinds {
-        if Operation::try_from(*kind).is_err() {
-            return false;
-        }
-    }
-    true
+    kinds.iter().all(|kind| Operation::try_from(*kind).is_ok())
 }
 
 // The operation of a kind; a single call where the kind names none.
