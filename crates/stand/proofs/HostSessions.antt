@@ -8,23 +8,11 @@ use Rattle.book.specs.Rounds.{HostImage, LentBatch, round_step, feed}
 use Rattle.book.proofs.Runs.{run-answers, run-leaves}
 use Rattle.book.proofs.RoundRows.{used-within}
 use Rattle.book.proofs.Rounds.{SaysBook, rounds_are_feeding}
-use Rattle.round.specs.Running.{RoundRuns}
-use Rattle.round.specs.Running.{RoundEnd}
-use Rattle.stand.specs.Rounds.{shift, returned_for, StandRuns, HostCalls, HostSession}
+use Rattle.stand.specs.Rounds.{shift, returned_for, HostCalls, HostSession}
 
 -- THE NUMBER RETURNED
 
--- of a round, by what `run_round` promises
-pub one_number : (image : List ℕ) (used : ℕ) (records replies imageAfter repliesAfter : List ℕ) (e : RoundEnd) → RoundRuns image used records replies imageAfter repliesAfter e
-    → StandRuns image used records replies imageAfter repliesAfter (e.number * shift + e.used)
-one_number image used records replies imageAfter repliesAfter e h =
-    record {
-      returned = ap returned_for h.is;
-      image_left = ap (λ (x : HostImage × Answer). x.0.buffer) h.is;
-      replies-left = ap (λ (x : HostImage × Answer). x.1.buffer) h.is;
-    }
-
--- its halves
+-- the halves of a number and a used number
 upper_half : (n u : ℕ) → u < shift → (n * shift + u) / shift ≡ n
 upper_half n u h = omega (arith, h)
 

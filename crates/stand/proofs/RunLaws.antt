@@ -76,18 +76,12 @@ module _ (ks s ns ws b cs es : List ℕ) (f : State) (left told counted : List �
   places_same few = same_room cs (map number_in p.done) told k p.numbers (omega (arith, p.fit.numbers, few))
 
   module _ (more : k < length ns) where
-    -- where the records and the reply buffer of the next operation end
-    pub records-end : at + get_or ns k 0 ≤ length s
-    records-end = omega (arith, p.records, total_here k ns more)
-
-    pub size-there : k < length ws
+    size-there : k < length ws
     size-there = omega (arith, p.fit.sizes, more)
 
-    pub part_ends : to + get_or ws k 0 ≤ length b
+    -- where the reply buffer of the next operation ends
+    part_ends : to + get_or ws k 0 ≤ length b
     part_ends = omega (arith, p.room, total_here k ws size-there)
-
-    pub place-there : k < length told
-    place-there = omega (arith, places_same (omega (arith, more)), p.fit.numbers, more)
 
     -- one operation more
     module _ (y : List ℕ) (d : Done) where
