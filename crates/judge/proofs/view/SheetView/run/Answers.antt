@@ -1,22 +1,14 @@
 -- `run` meets its contract: a law of ListLaws for each way on and out.
 -- Assumes nothing.
 use Rattle.std.proofs.Common.{◌≡◌, rules, Err}
-use Rattle.judge.proofs.ListLaws.{judging-none, judging-end, judging-refused, judging-more}
+use Rattle.judge.proofs.ListLaws.{judging-end, judging-refused, judging-more}
 use Rattle.judge.proofs.view.SheetView.run.Goals as goal
-
-pub loop-record-init : goal.loop-record-init
-loop-record-init c = judging-none _ _ _ _ _ _ (search rules) (search rules)
 
 pub returns-in_err-event-clause-judged : goal.returns-in_err-event-clause-judged
 returns-in_err-event-clause-judged c =
     let e : c.from_residual.result ≡ Err c.in_err-event.field-0.0 = search rules in
     let step = c.in-Some.ensures.steps in
     rw e (judging-refused _ _ _ _ _ _ _ c.loop-record.invariant _ _ step.1.0 step.1.1 _ c.in_err-event.ensures)
-
-pub returns-in_err-event-clause-seven : goal.returns-in_err-event-clause-seven
-returns-in_err-event-clause-seven c =
-    let e : c.from_residual.result ≡ Err c.in_err-event.field-0.0 = search rules in
-    rw e c.in_err-event.ensures.seven
 
 pub loop-record-preserved : goal.loop-record-preserved
 loop-record-preserved c =
