@@ -1,6 +1,6 @@
 -- A batch worked record by record.
 -- Assumes nothing.
-use Rattle.std.proofs.Common.{◌≡◌, refl, sym, ap, ap₂, ◌∙◌, subst, true, false, List, [], ◌∷◌, ◌++◌, append_assoc, append-nil, ℕ, zero, suc, ◌+◌, ◌-◌, ◌*◌, ◌/◌, ◌≤◌, ◌<◌, arith, length, take, drop, length-drop, length-take-le, drop-drop}
+use Rattle.std.proofs.Common.{◌≡◌, refl, sym, ap, ap₂, ◌∙◌, subst, true, false, List, [], ◌∷◌, ◌++◌, append_assoc, append-nil, ℕ, zero, suc, ◌+◌, ◌*◌, ◌/◌, ◌≤◌, ◌<◌, arith, length, take, drop, length-append, length-drop, length-take-le, drop-drop, take_at, drop_at}
 use borrow.Rule.Slice.PartMut.{put_mid}
 use Rattle.common.proofs.Bools.{true_not_false}
 use Rattle.follow.specs.declared.state.State.{State}
@@ -15,20 +15,23 @@ use Rattle.batch.specs.Handled.{BatchHandles}
 use Rattle.batch.proofs.SizeLaws.{whole-records, replies_for_each}
 use Rattle.batch.proofs.PartLaws.{Filled, filled_none, part_lent, same_room, filled_more, filled-all}
 
--- some calls of the batch are made: a run of single calls from f to m, whose buffers stand in front; so many records are left
-pub record Progress (f : State) (s b : List ℕ) (m : State) (left : List ℕ) (at to : ℕ) : Type 0 where
+-- some calls of the batch are made: a run of single calls from f to m, whose buffers stand in front; the records of `rest` are left, and the next is record i
+pub record Progress (f : State) (s b : List ℕ) (m : State) (left : List ℕ) (size : ℕ) (rest : List ℕ) (i : ℕ) : Type 0 where
+  pub whole : size ≡ 128
   pub made : List Call
   pub done : List Answer
   pub more : ℕ
   pub session : Session f made done m
-  pub calls : batch_calls s b ≡ made ++ calls_in more (drop at s) (drop to b)
-  pub filled : Filled b (buffers done) left to
-  pub records : at + more * 128 ≡ length s
-  pub room : to + more * 50 ≡ length b
+  pub calls : batch_calls s b ≡ made ++ calls_in more rest (drop (i * 50) b)
+  pub filled : Filled b (buffers done) left (i * 50)
+  pub records : length rest ≡ more * 128
+  pub room : i * 50 + more * 50 ≡ length b
 
-pub begun : (f : State) (s b : List ℕ) → batch_fits s b ≡ true → Progress f s b f b 0 0
-begun f s b h =
-    record {
+pub begun : (f : State) (s b : List ℕ) (size : ℕ) (rest : List ℕ) (i : ℕ) → batch_fits s b ≡ true → size ≡ 128 → rest ≡ s → i ≡ 0 → Progress f s b f b size rest i
+begun f s b size rest i h n e z =
+    rw (e, z)
+    (record {
+      whole = n;
       made = [];
       done = [];
       more = length s / 128;
@@ -37,71 +40,81 @@ begun f s b h =
       filled = filled_none b;
       records = omega (arith, whole-records (length s) (length b) h);
       room = omega (arith, replies_for_each (length s) (length b) h);
-    }
+    })
 
-module _ (f : State) (s b : List ℕ) (m : State) (left : List ℕ) (at to : ℕ) (p : Progress f s b m left at to) where
-  -- another record is there, and the room for its reply
-  pub record_there : at < length s → at + 128 ≤ length s
-  record_there h = omega (arith, p.records, h)
+module _ {f : State} {s b : List ℕ} {m : State} {left : List ℕ} {size : ℕ} {rest : List ℕ} {i : ℕ} (p : Progress f s b m left size rest i) where
+  -- another record is there: so is the room for its reply
+  module _ (x rest' : List ℕ) (split : rest ≡ x ++ rest') (full : length x ≡ size) where
+    one : length x ≡ 128
+    one = full ∙ p.whole
 
-  pub room_there : at < length s → to + 50 ≤ length b
-  room_there h = omega (arith, p.records, p.room, h)
+    long : length rest ≡ 128 + length rest'
+    long = omega (arith, ap length split, length-append x rest', one)
 
-  pub room_same : length left ≡ length b
-  room_same = same_room b (buffers p.done) left to p.filled (omega (arith, p.room))
+    pub room_there : i * 50 + 50 ≤ length b
+    room_there = omega (arith, p.records, p.room, long)
 
-  -- one record more
-  pub called : at < length s → (y : List ℕ) (r : Handled) → Handles m (take (at + 128 - at) (drop at s)) (take (to + 50 - to) (drop to left)) y r
-      → length y ≡ length (take (to + 50 - to) (drop to left)) → Progress f s b r.monitor (put_mid to (to + 50 - to) left y) (at + 128) (to + 50)
-  called h y r g sized = go p.more p.calls p.records p.room
+    -- one record more
+    made_more : (y : List ℕ) (r : Handled) → Handles m x (take 50 (drop (i * 50) left)) y r → length y ≡ 50 → Progress f s b r.monitor (put_mid (i * 50) 50 left y) 128 rest' (i + 1)
+    made_more y r g fifty = go p.more p.calls p.records p.room
+      where
+        call : Call
+        call = record { bytes = x; buffer = take 50 (drop (i * 50) b) }
+
+        given : Answer
+        given = record { number = r.number; buffer = y }
+
+        after : i * 50 + 50 ≡ (i + 1) * 50
+        after = omega arith
+
+        handled : Handles m x (take 50 (drop (i * 50) b)) y r
+        handled = subst (λ (l : List ℕ). Handles m x l y r) (part_lent b (buffers p.done) left (i * 50) p.filled 50) g
+
+        filled : Filled b (buffers (p.done ++ (given ∷ []))) (put_mid (i * 50) 50 left y) ((i + 1) * 50)
+        filled =
+            subst (λ (l : List ℕ). Filled b l (put_mid (i * 50) 50 left y) ((i + 1) * 50)) (ap (λ (l : List ℕ). buffers p.done ++ l) (sym (append-nil y)) ∙ sym (buffers-append p.done (given ∷ [])))
+            (subst (Filled b (buffers p.done ++ y) (put_mid (i * 50) 50 left y)) after (filled_more b (buffers p.done) left (i * 50) p.filled 50 y fifty))
+
+        first : (n : ℕ) → calls_in (suc n) rest (drop (i * 50) b) ≡ call ∷ calls_in n rest' (drop ((i + 1) * 50) b)
+        first n =
+            ap (λ (l : List ℕ). calls_in (suc n) l (drop (i * 50) b)) split
+            ∙ ap₂ (λ (u v : List ℕ). record { bytes = u; buffer = take 50 (drop (i * 50) b) } ∷ calls_in n v (drop 50 (drop (i * 50) b))) (take_at x rest' 128 one) (drop_at x rest' 128 one)
+            ∙ ap (λ (l : List ℕ). call ∷ calls_in n rest' l) (drop-drop 50 (i * 50) b ∙ ap (λ (k : ℕ). drop k b) after)
+
+        go : (n : ℕ) → batch_calls s b ≡ p.made ++ calls_in n rest (drop (i * 50) b) → length rest ≡ n * 128 → i * 50 + n * 50 ≡ length b
+            → Progress f s b r.monitor (put_mid (i * 50) 50 left y) 128 rest' (i + 1)
+        go zero e k l = absurd (omega (arith, k, long))
+        go (suc n) e k l =
+            record {
+              whole = refl;
+              made = p.made ++ (call ∷ []);
+              done = p.done ++ (given ∷ []);
+              more = n;
+              session = run-last {o = call} {r = given} p.session handled;
+              calls = e ∙ ap (λ (cs : List Call). p.made ++ cs) (first n) ∙ sym (append_assoc p.made (call ∷ []) (calls_in n rest' (drop ((i + 1) * 50) b)));
+              filled = filled;
+              records = omega (arith, k, long);
+              room = omega (arith, l);
+            }
+
+    -- the same where the loop says its numbers in its own way
+    pub called : (to own size' i' : ℕ) → to ≡ i * 50 → own ≡ 50 → size' ≡ size → i' ≡ i + 1 → (y : List ℕ) (r : Handled) → Handles m x (take own (drop to left)) y r
+        → length y ≡ length (take own (drop to left)) → Progress f s b r.monitor (put_mid to own left y) size' rest' i'
+    called to own size' i' at w n c y r g sized =
+        let room = same_room b (buffers p.done) left (i * 50) p.filled (omega (arith, p.room)) in
+        let fifty : length (take 50 (drop (i * 50) left)) ≡ 50 = length-take-le 50 (drop (i * 50) left) (omega (arith, length-drop (i * 50) left, room, room_there)) in
+        let handled = subst (λ (k : ℕ). Handles m x (take 50 (drop k left)) y r) at (subst (λ (k : ℕ). Handles m x (take k (drop to left)) y r) w g) in
+        rw (at, w, n, p.whole, c)
+        (made_more y r handled (sized ∙ ap₂ (λ (k l : ℕ). length (take k (drop l left))) w at ∙ fifty))
+
+  -- less than a record is left: all are worked
+  pub finished : length rest < size → batch_fits s b ≡ true → BatchHandles f s b left (record { number = 0; monitor = m })
+  finished few fits = go p.more p.calls p.records p.room
     where
-      one : at + 128 - at ≡ 128
-      one = omega arith
+      short : length rest < 128
+      short = let n = p.whole in omega arith
 
-      own : to + 50 - to ≡ 50
-      own = omega arith
-
-      call : Call
-      call = record { bytes = take 128 (drop at s); buffer = take 50 (drop to b) }
-
-      given : Answer
-      given = record { number = r.number; buffer = y }
-
-      handled : Handles m (take 128 (drop at s)) (take 50 (drop to b)) y r
-      handled =
-          subst (λ (l : List ℕ). Handles m (take 128 (drop at s)) l y r) (part_lent b (buffers p.done) left to p.filled 50)
-          (subst (λ (j : ℕ). Handles m (take 128 (drop at s)) (take j (drop to left)) y r) own (subst (λ (i : ℕ). Handles m (take i (drop at s)) (take (to + 50 - to) (drop to left)) y r) one g))
-
-      fifty : length y ≡ 50
-      fifty =
-          let d = length-drop to left in
-          sized ∙ ap (λ (j : ℕ). length (take j (drop to left))) own ∙ length-take-le 50 (drop to left) (omega (arith, d, room_same, room_there h))
-
-      filled : Filled b (buffers (p.done ++ (given ∷ []))) (put_mid to (to + 50 - to) left y) (to + 50)
-      filled =
-          subst (λ (l : List ℕ). Filled b l (put_mid to (to + 50 - to) left y) (to + 50)) (ap (λ (l : List ℕ). buffers p.done ++ l) (sym (append-nil y)) ∙ sym (buffers-append p.done (given ∷ [])))
-          (subst (λ (j : ℕ). Filled b (buffers p.done ++ y) (put_mid to j left y) (to + 50)) (sym own) (filled_more b (buffers p.done) left to p.filled 50 y fifty))
-
-      go : (n : ℕ) → batch_calls s b ≡ p.made ++ calls_in n (drop at s) (drop to b) → at + n * 128 ≡ length s → to + n * 50 ≡ length b
-          → Progress f s b r.monitor (put_mid to (to + 50 - to) left y) (at + 128) (to + 50)
-      go zero e k l = absurd (omega (arith, k, h))
-      go (suc n) e k l =
-          record {
-            made = p.made ++ (call ∷ []);
-            done = p.done ++ (given ∷ []);
-            more = n;
-            session = run-last {o = call} {r = given} p.session handled;
-            calls = e ∙ ap₂ (λ (x z : List ℕ). p.made ++ (call ∷ calls_in n x z)) (drop-drop 128 at s) (drop-drop 50 to b) ∙ sym (append_assoc p.made (call ∷ []) (calls_in n (drop (at + 128) s) (drop (to + 50) b)));
-            filled = filled;
-            records = omega (arith, k);
-            room = omega (arith, l);
-          }
-
-  -- all records are worked
-  pub finished : length s ≤ at → batch_fits s b ≡ true → BatchHandles f s b left (record { number = 0; monitor = m })
-  finished end fits = go p.more p.calls p.records p.room
-    where
-      go : (n : ℕ) → batch_calls s b ≡ p.made ++ calls_in n (drop at s) (drop to b) → at + n * 128 ≡ length s → to + n * 50 ≡ length b → BatchHandles f s b left (record { number = 0; monitor = m })
+      go : (n : ℕ) → batch_calls s b ≡ p.made ++ calls_in n rest (drop (i * 50) b) → length rest ≡ n * 128 → i * 50 + n * 50 ≡ length b → BatchHandles f s b left (record { number = 0; monitor = m })
       go zero e k l =
           record {
             taken = λ t.
@@ -109,11 +122,11 @@ module _ (f : State) (s b : List ℕ) (m : State) (left : List ℕ) (at to : ℕ
                   number = refl;
                   answers = p.done;
                   session = subst (λ (cs : List Call). Session f cs p.done m) (sym (e ∙ append-nil p.made)) p.session;
-                  replies = filled-all b (buffers p.done) left to p.filled (omega (arith, l));
+                  replies = filled-all b (buffers p.done) left (i * 50) p.filled (omega (arith, l));
                 };
             refused = λ e. absurd (true_not_false (batch_fits s b) fits e);
           }
-      go (suc n) e k l = absurd (omega (arith, k, end))
+      go (suc n) e k l = absurd (omega (arith, k, short))
 
 -- the buffers are not those of a batch
 pub turned_away : (f : State) (s b : List ℕ) → batch_fits s b ≡ false → BatchHandles f s b b (record { number = 11; monitor = f })

@@ -16,14 +16,10 @@ pub fn handle_batch(monitor: &mut State, records: &[u8], replies: &mut [u8]) -> 
     if !fits(records.len(), replies.len()) {
         return Err(Refusal::BatchLength);
     }
-    let mut at = 0;
-    let mut to = 0;
-    while at < records.len() {
-        let end = at + RECORD_SIZE;
-        let past = to + REPLY_SIZE;
-        let _ = handle(monitor, &records[at..end], &mut replies[to..past]);
-        at = end;
-        to = past;
+    for (i, record) in records.chunks_exact(RECORD_SIZE).enumerate() {
+        // Kept: the reply's part by its index. Through `chunks_exact_mut` a proof knows the length of what was written, and no byte of it.
+        let at = i * REPLY_SIZE;
+        let _ = handle(monitor, record, &mut replies[at..at + REPLY_SIZE]);
     }
     Ok(())
 }
