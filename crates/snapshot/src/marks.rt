@@ -1,4 +1,5 @@
-// The record of a rule's marks: byte `M`, the name in eight columns, a space, the digits, spaces, the newline. Mark is the format's word; the state's is position.
+// The record of a rule's marks: byte `M`, the name in eight columns, a space, the digits, spaces, the newline. Mark is the format's word; the state's is
+// position.
 ghost use Rattle.std.specs.Prelude.{◌≡◌, ltb};
 ghost use Rattle.names.specs.Unpacked.{unpacked};
 ghost use Rattle.book.specs.Images.{digits, mark_record};

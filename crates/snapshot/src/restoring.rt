@@ -23,11 +23,12 @@ fn mark_at(sheet: &Sheet, records: &[u8], i: usize) -> Option<u64>
 fn take_marks(sheet: &Sheet, count: usize, records: &[u8], positions: &mut [u64]) -> Option<()>
     ensures { MarksTaken (mark_at sheet.now.rule_names sheet.now.rows records.now) count positions.old positions.new result }
 {
+    // Kept: a test and a part. Of what `get_mut(..count)?` lends, a proof knows the length afterwards, and no element.
     if positions.len() < count {
         return None;
     }
-    for i in 0..count {
-        positions[i] = mark_at(sheet, records, i)?;
+    for (i, held) in positions[..count].iter_mut().enumerate() {
+        *held = mark_at(sheet, records, i)?;
     }
     Some(())
 }

@@ -46,9 +46,11 @@ fn rule_marks(state: &State, i: usize) -> [u8; 128]
 // The first `count` records, one after the other; and the place after them.
 fn put_records<F: Fn(usize) -> [u8; 128]>(out: &mut [u8], at: usize, count: usize, line: F) -> usize
     requires { (i : ℕ) → i < count → F.pre line i }
-    ensures { (f : ℕ → List ℕ) → ((i : ℕ) → i < count → (r : List ℕ) → F.post line i r → r ≡ f i) → Writes at (first_of f count) out.old out.new result }
+    ensures { (f : ℕ → List ℕ) → ((i : ℕ) → i < count → (r : List ℕ) → F.post line i r → r ≡ f i)
+        → Writes at (first_of f count) out.old out.new result }
 {
     let mut next = at;
+    // Kept: an index. `line` makes record i of i alone, and there is no list of records to go over.
     for i in 0..count {
         next = text(out, next, &line(i));
     }
@@ -57,7 +59,9 @@ fn put_records<F: Fn(usize) -> [u8; 128]>(out: &mut [u8], at: usize, count: usiz
 
 // The whole image: the lines of the roles after top, the rule lines, and the rules' marks.
 pub fn put_image(state: &State, roles: usize, rules: usize, out: &mut [u8]) -> usize
-    ensures { Writes 0 (image_from state.now.sheet.names state.now.sheet.parents roles state.now.sheet.rule_names state.now.sheet.rows state.now.positions rules) out.old out.new result }
+    ensures { Writes 0
+        (image_from state.now.sheet.names state.now.sheet.parents roles state.now.sheet.rule_names state.now.sheet.rows state.now.positions rules)
+        out.old out.new result }
 {
     let sheet = &state.sheet;
     let role = |i: usize|
