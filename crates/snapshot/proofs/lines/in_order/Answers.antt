@@ -8,11 +8,6 @@ use Rattle.snapshot.proofs.LineLaws.{order-as, in_order_refused, in_order_first,
 use Rattle.snapshot.proofs.lines.in_order.Goals as goal
 use Rattle.snapshot.proofs.lines.in_order.Goals.{then-rules-eq0, else-rules-eq0}
 
-pub returns-in_err-declare : goal.returns-in_err-declare
-returns-in_err-declare c =
-    let p = err_from_is_err_and c.from_residual.result c.from_residual.ensures.1 in
-    order-as p.1 (in_order_refused _ _ _ c.declare.ensures _ (λ z. refusal_some _ (sym (ap answer_number c.in_err-declare.was) ∙ z)))
-
 pub returns-then-state-roles : goal.returns-then-state-roles
 returns-then-state-roles c =
     elim c.if-rules-eq0.branch [

@@ -13,6 +13,3 @@ loop-i-preserved g c =
     λ f h.
     writes_same (sym (ap (first_of f) (add-one c.loop-i.i)))
     (writes_then (c.loop-i.invariant f h) (writes_same (h c.loop-i.i c.loop-i-test.true _ c.line.ensures) c.text-next.ensures))
-
-pub returns : goal.returns
-returns g c = λ f h. let e : c.loop-i.i ≡ c.args.count = omega arith in writes_same (ap (first_of f) e) (c.loop-i.invariant f h)
