@@ -131,9 +131,9 @@ module _ (f : State) (s after : List ℕ) where
       (split i n (omega arith))
 
   -- as many records as rules: the state with the marks read, or none
-  pub given-marks : (o : Given Unit) (d : Why.Refusal) → length f.positions ≡ 32 → length s / 128 ≡ f.sheet.rule_count → MarksTaken mark f.sheet.rule_count f.positions after o
+  pub given_marks : (o : Given Unit) (d : Why.Refusal) → length f.positions ≡ 32 → length s / 128 ≡ f.sheet.rule_count → MarksTaken mark f.sheet.rule_count f.positions after o
       → MarksGiven f s (ok_or o d) given
-  given-marks o d long even h = record { right = λ t rep. go t rep o h }
+  given_marks o d long even h = record { right = λ t rep. go t rep o h }
     where
       -- the records are as many as the rules
       read : (t : PositionMachine) (x : Option (List PositionRule)) (r : Result Unit Why.Refusal) → read_marks t.rules (in_order (records_of f.sheet.rule_count s)) ≡ x

@@ -46,9 +46,9 @@ module _ (f : State) (lent : List ℕ) (r n : ℕ) (roles : r ≡ min f.sheet.ro
       ∙ sym (ap₂ (λ (x y : ℕ). (x + y + y) * 128) roles-are rules-are)
 
   -- "13, a lent buffer too short to keep into, .. untouched, 0 records handed back"
-  pub kept-short : length lent < (r + n + n) * 128 → Keeps f lent lent (record { number = 13; count = 0; monitor = f })
+  pub kept_short : length lent < (r + n + n) * 128 → Keeps f lent lent (record { number = 13; count = 0; monitor = f })
   unfolding kept_in keep_fits
-  kept-short h =
+  kept_short h =
       let e = long in
       record { monitor = refl; result = rw (lt-leb (length (state_image f)) (length lent) (omega arith)) refl }
 

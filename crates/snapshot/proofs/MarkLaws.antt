@@ -16,10 +16,10 @@ use Rattle.book.specs.Restoring.{marks_in, marks_end, read_mark}
 use Rattle.snapshot.specs.Reading.{given}
 
 -- "a record of byte `M`, the name in eight columns, a space, the marks as eight capital hexadecimal digits .., spaces, newline": from its parts
-pub mark-written : {p q r t : ℕ} {w a b c d : List ℕ} (k m : ℕ) → length w ≤ 8 → Writes 0 (77 ∷ []) (spaces 128) a p → Writes p w a b q → Writes q (spaces (10 - q)) b c r
+pub mark_written : {p q r t : ℕ} {w a b c d : List ℕ} (k m : ℕ) → length w ≤ 8 → Writes 0 (77 ∷ []) (spaces 128) a p → Writes p w a b q → Writes q (spaces (10 - q)) b c r
     → Writes r (hex_of k m) c d t → set d 127 newline ≡ mark_record k w m
 unfolding mark_record
-mark-written {p} {w = w} k m small f g h i =
+mark_written {p} {w = w} k m small f g h i =
     let n : p ≡ 1 = writes_next f (omega arith) in
     let e : 10 - p ≡ 9 = omega arith in
     let s : padded (10 - p) w ++ hex_of k m ≡ padded 8 w ++ (32 ∷ hex_of k m) =
@@ -55,10 +55,10 @@ module _ (bytes w written : List ℕ) (n m : ℕ) (e : m ≡ marks_in digits byt
       rw (← e, same-bytes_eq bytes (mark_record digits w m), ← r, ← not_same eq (bytes_eq bytes written) s, ← k) refl
 
   -- another record
-  pub read-other : not (bytes_eq bytes written) ≡ true → none ≡ read_mark digits w n bytes
-  read-other s = sym (read-is false (ltb m (marks_end n)) (sym s) refl)
+  pub read_other : not (bytes_eq bytes written) ≡ true → none ≡ read_mark digits w n bytes
+  read_other s = sym (read-is false (ltb m (marks_end n)) (sym s) refl)
 
   -- the one written
-  pub read-same : not (bytes_eq bytes written) ≡ false → (ok : Bool) → ok ≡ ltb m (marks_end n) → (o : Option ℕ) → o ≡ then_some ok m → given o ≡ read_mark digits w n bytes
-  read-same s true k o h = rw h (sym (read-is true true (sym s) k))
-  read-same s false k o h = rw h (sym (read-is true false (sym s) k))
+  pub read_same : not (bytes_eq bytes written) ≡ false → (ok : Bool) → ok ≡ ltb m (marks_end n) → (o : Option ℕ) → o ≡ then_some ok m → given o ≡ read_mark digits w n bytes
+  read_same s true k o h = rw h (sym (read-is true true (sym s) k))
+  read_same s false k o h = rw h (sym (read-is true false (sym s) k))

@@ -26,6 +26,7 @@ pub fn mark_record(name: u64, marks: u64) -> [u8; 128]
 }
 
 // Whether marks are among 0 to n.
+#[tactic(auto, using(crate::proofs::MarkLaws::within_all))]
 fn within(marks: u64, n: usize) -> bool
     ensures { result ≡ ltb marks (marks_end n) }
 {
@@ -33,6 +34,7 @@ fn within(marks: u64, n: usize) -> bool
 }
 
 // The marks in a record, where every byte of it is as it is written for a rule of that name and they are among 0 to n.
+#[tactic(auto, using(crate::proofs::MarkLaws::read_other, crate::proofs::MarkLaws::read_same))]
 pub fn read_mark(bytes: &[u8], name: u64, n: usize) -> Option<u64>
     ensures { given result ≡ read_mark digits (unpacked name) n bytes.now }
 {

@@ -11,6 +11,7 @@ use common::sizes::RECORD_SIZE;
 use follow::{Sheet, State, code_of, number_at, row};
 
 // The marks of rule i, by `M` record i.
+#[tactic(auto, using(crate::proofs::TakingLaws::mark_by))]
 fn mark_at(sheet: &Sheet, records: &[u8], i: usize) -> Option<u64>
     ensures { given result ≡ mark_at sheet.now.rule_names sheet.now.rows records.now i }
 {
@@ -34,6 +35,7 @@ fn take_marks(sheet: &Sheet, count: usize, records: &[u8], positions: &mut [u64]
 }
 
 // The state with the marks that the records after the lines give: as many records as rules.
+#[tactic(auto, using(crate::proofs::GivenLaws::given_uneven, crate::proofs::GivenLaws::given_marks))]
 fn give_marks(state: &mut State, records: &[u8]) -> Result<(), Refusal>
     ensures { MarksGiven state.old records.now result state.new }
 {
@@ -45,6 +47,7 @@ fn give_marks(state: &mut State, records: &[u8]) -> Result<(), Refusal>
 }
 
 // The state that an image says.
+#[tactic(auto, using(crate::proofs::ImageLaws::image_uneven, crate::proofs::ImageLaws::image_refused, crate::proofs::ImageLaws::image_given, crate::proofs::ImageLaws::image_marks_refused))]
 fn read_image(image: &[u8]) -> Result<State, Refusal>
     ensures { ImageRead image.now result }
 {

@@ -2,9 +2,9 @@
 -- Assumes nothing.
 use Rattle.book.specs.Images.{digits}
 use Rattle.names.proofs.UnpackedLaws.{unpacked-length}
-use Rattle.snapshot.proofs.MarkLaws.{mark-written}
+use Rattle.snapshot.proofs.MarkLaws.{mark_written}
 use Rattle.snapshot.proofs.marks.mark_record.Goals as goal
 
 pub returns : goal.returns
 returns c =
-    mark-written digits c.args.marks (unpacked-length c.args.name) c.put-named.ensures c.word-end.ensures c.blank-start.ensures c.put_digits.ensures
+    mark_written digits c.args.marks (unpacked-length c.args.name) c.put-named.ensures c.word-end.ensures c.blank-start.ensures c.put_digits.ensures
