@@ -60,8 +60,8 @@ module _ (s : List ℕ) (f : State) (r : Bor (List ℕ)) (p : TakenTo s f r.now)
       record { right = subst (λ (x : Option PositionMachine). LinesAs s x (Ok (f, r))) w (p.represents, o); end = λ q e. let h : (f, r) ≡ q = cc in subst (λ (x : State × Bor (List ℕ)). EndOf s x.1.now) h p.end }
 
   -- less than a record is left
-  pub taken-all : length r.now < 128 → LinesTaken s (Ok (f, r))
-  taken-all few = stopped [] (no_records r.now few) refl refl
+  pub taken_all : length r.now < 128 → LinesTaken s (Ok (f, r))
+  taken_all few = stopped [] (no_records r.now few) refl refl
 
   module _ (here after : List ℕ) (h : 128 ≤ length r.now) (front : here ≡ take 128 r.now) (back : after ≡ drop 128 r.now) where
     -- the records left are the one here and those after it
@@ -69,8 +69,8 @@ module _ (s : List ℕ) (f : State) (r : Bor (List ℕ)) (p : TakenTo s f r.now)
     rest-is = records_next r.now h ∙ sym (λ i. front i ∷ records_in (back i))
 
     -- the first that is no `L` record
-    pub taken-others : (get_or here 0 0 ≡ line_byte → ⊥) → LinesTaken s (Ok (f, r))
-    taken-others n = let q : is_line here ≡ false = ne_eqb (get_or here 0 0) line_byte n in stopped (here ∷ records_in after) rest-is (rw q refl) (rw q refl)
+    pub taken_others : (get_or here 0 0 ≡ line_byte → ⊥) → LinesTaken s (Ok (f, r))
+    taken_others n = let q : is_line here ≡ false = ne_eqb (get_or here 0 0) line_byte n in stopped (here ∷ records_in after) rest-is (rw q refl) (rw q refl)
 
     module _ (e : get_or here 0 0 ≡ line_byte) where
       a_line : is_line here ≡ true

@@ -32,6 +32,7 @@ fn take_line(state: &mut State, bytes: &[u8]) -> Result<(), Refusal>
 }
 
 // The records of byte `L` in front of an image, in order: the state that they leave in a fresh monitor, and the bytes after them.
+#[tactic(auto, using(crate::proofs::LinesLaws::taken_none, crate::proofs::LinesLaws::taken_others, crate::proofs::LinesLaws::taken_more))]
 pub fn take_lines(image: &[u8]) -> Result<(State, &[u8]), Refusal>
     ensures { LinesTaken image.now result }
 {
