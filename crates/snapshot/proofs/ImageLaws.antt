@@ -1,4 +1,4 @@
--- Laws of an image taken back: its lines, then its marks; and what becomes of the monitor.
+-- Laws of an image taken back: its lines, then its marks.
 -- Assumes nothing.
 use Rattle.std.proofs.Common.{◌≡◌, refl, sym, subst, true≢false, List, ℕ, ◌%◌, length, eq-eqb, ne_eqb, Result, Ok, Err, IsErr, Bor}
 use Rattle.std.proofs.Math.Option.{Option, none, some}
@@ -6,7 +6,7 @@ use Rattle.common.specs.declared.refusals.Refusal.{Refusal}
 use Rattle.follow.specs.declared.state.State.{State}
 use Rattle.intake.specs.Machine.{PositionMachine, fresh_machine}
 use Rattle.book.specs.Restoring.{and_then, take_lines, line_records, other_records, marks_read, restored}
-use Rattle.snapshot.specs.Reading.{records_in, TakenAs, LinesAs, LinesTaken, ImageAs, MarksGiven, ImageRead, RestoredAs, RestoredBy}
+use Rattle.snapshot.specs.Reading.{records_in, TakenAs, LinesAs, LinesTaken, ImageAs, MarksGiven, ImageRead}
 
 module _ (s : List ℕ) where
   -- "an image that isn't whole records"
@@ -54,20 +54,3 @@ module _ (s : List ℕ) where
           go : (o : Option PositionMachine) → TakenAs o (Err c) g → ImageAs o r
           go none h = q
           go (some t) h = absurd (true≢false (sym h.0))
-
-  module _ (f : State) where
-    -- "Returning to an image replaces the monitor."
-    pub image_accepted : (g : State) → ImageRead s (Ok g) → RestoredBy f s 0 g
-    image_accepted g read = record { right = go (restored s) read.right }
-      where
-        go : (o : Option PositionMachine) → ImageAs o (Ok g) → RestoredAs f o (record { number = 0; monitor = g })
-        go none h = absurd (true≢false (sym h))
-        go (some t) h = (refl, h)
-
-    -- "Turned away: 12, .. monitor unchanged"
-    pub image_turned : (d : Refusal) → ImageRead s (Err d) → RestoredBy f s 12 f
-    image_turned d read = record { right = go (restored s) read.right }
-      where
-        go : (o : Option PositionMachine) → ImageAs o (Err d) → RestoredAs f o (record { number = 12; monitor = f })
-        go none h = refl
-        go (some t) h = absurd h

@@ -71,10 +71,6 @@ line-ok : (o : Option PositionMachine) (d : Declared) → d.number ≡ 0 → Dec
 line-ok none d z n = absurd (n z)
 line-ok (some u) d z h = (refl, h.1)
 
-line-err : (o : Option PositionMachine) (d : Declared) (e : Why.Refusal) → (d.number ≡ 0 → ⊥) → DeclaredTo o d → TakenAs o (Err e) d.state
-line-err none d e n h = refl
-line-err (some u) d e n h = absurd (n h.0)
-
 module _ (f : State) (d : Declared) where
   -- a refusal's number is not 0
   not_taken : (n : ℕ) → 2 ≤ n → d ≡ refuse f n → d.number ≡ 0 → ⊥
@@ -110,16 +106,6 @@ module _ (f : State) (d : Declared) where
     numbered : (t : PositionMachine) → Numbered (what t)
     numbered t = line-numbered t.roles (names_of t.rules) (read_line s)
 
-    -- refused
-    pub in_order_refused : (e : Why.Refusal) → (d.number ≡ 0 → ⊥) → LineInOrder f s (Err e) d.state
-    in_order_refused e n = record { right = λ t rep k. refused_here t (what t) (h.right t rep k) }
-      where
-        refused_here : (t : PositionMachine) (a : Asked) → DeclaredAs f t a d → TakenAs (take_asked t a) (Err e) d.state
-        refused_here t (refused_by j) y = refl
-        refused_here t (asks_role w p) y = absurd (n (ap (λ (x : Declared). x.number) y.is))
-        refused_here t (asks_rule r) y = absurd (n (ap (λ (x : Declared). x.number) y.is))
-        refused_here t (asks_event v) y = absurd y
-
     -- no rule yet, or no role more
     pub in_order_first : d.number ≡ 0 → f.sheet.rule_count ≡ 0 → LineInOrder f s (Ok tt) d.state
     in_order_first z q = record { right = λ t rep k. line-ok _ d z (first_taken t (rules-count f t rep ∙ q) (what t) (numbered t) (h.right t rep k)) }
@@ -132,9 +118,6 @@ module _ (f : State) (d : Declared) where
     in_order_late e n z = record { right = λ t rep k. late_refused t rep (λ q. n (sym (rules-count f t rep) ∙ q)) z e (what t) (h.right t rep k) }
 
 -- an answer that is another
-pub order-as : {f g : State} {s : List ℕ} {r q : Result Unit Why.Refusal} → r ≡ q → LineInOrder f s q g → LineInOrder f s r g
-order-as e h = rw e h
-
 pub taken-as : {f g : State} {s : List ℕ} {r q : Result Unit Why.Refusal} → r ≡ q → LineTaken f s q g → LineTaken f s r g
 taken-as e h = rw e h
 

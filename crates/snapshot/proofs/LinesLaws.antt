@@ -1,6 +1,6 @@
 -- Laws of the lines in front of an image: those before some bytes have been taken, and these bytes go on as the whole does.
 -- Assumes nothing.
-use Rattle.std.proofs.Common.{◌≡◌, refl, sym, ap, ◌∙◌, subst, true, false, true≢false, List, [], ◌∷◌, ℕ, suc, ◌/◌, ◌-◌, ◌≤◌, ◌<◌, arith, length, take, drop, get_or, length-drop, eq-eqb, ne_eqb, Result, Ok, Err, IsErr, Bor}
+use Rattle.std.proofs.Common.{◌≡◌, refl, sym, ap, ◌∙◌, subst, true, false, true≢false, List, [], ◌∷◌, ℕ, suc, ◌/◌, ◌-◌, ◌≤◌, arith, length, take, drop, get_or, length-drop, eq-eqb, ne_eqb, Result, Ok, Err, IsErr, Bor}
 use Rattle.std.proofs.Math.Option.{Option, none, some}
 use Rattle.common.specs.declared.refusals.Refusal.{Refusal}
 use Rattle.frame.specs.Records.{records_of}
@@ -40,10 +40,6 @@ end_dropped r h =
     let k : 128 ≡ length r - length (drop 128 r) = omega arith in
     record { fits = omega arith; bytes = ap (λ (n : ℕ). drop n r) k }
 
--- less than a record is no record
-no_records : (s : List ℕ) → length s < 128 → records_in s ≡ []
-no_records s h = let z : length s / 128 ≡ 0 = omega arith in ap (λ (k : ℕ). records_of k s) z
-
 -- a record and those after it
 records_next : (s : List ℕ) → 128 ≤ length s → records_in s ≡ take 128 s ∷ records_in (drop 128 s)
 records_next s h =
@@ -58,10 +54,6 @@ module _ (s : List ℕ) (f : State) (r : Bor (List ℕ)) (p : TakenTo s f r.now)
       let w : some p.machine ≡ whole s = sym (ap (take_lines p.machine) (ap line_records e ∙ a)) ∙ p.lines in
       let o : records_in r.now ≡ other_records (records_in s) = e ∙ sym b ∙ sym (ap other_records e) ∙ p.others in
       record { right = subst (λ (x : Option PositionMachine). LinesAs s x (Ok (f, r))) w (p.represents, o); end = λ q e. let h : (f, r) ≡ q = cc in subst (λ (x : State × Bor (List ℕ)). EndOf s x.1.now) h p.end }
-
-  -- less than a record is left
-  pub taken_all : length r.now < 128 → LinesTaken s (Ok (f, r))
-  taken_all few = stopped [] (no_records r.now few) refl refl
 
   module _ (here after : List ℕ) (h : 128 ≤ length r.now) (front : here ≡ take 128 r.now) (back : after ≡ drop 128 r.now) where
     -- the records left are the one here and those after it

@@ -1,10 +1,8 @@
 -- `in_order` meets its contract: refused, no rule yet, no role more, or a role after a rule.
 -- Assumes nothing.
 use Rattle.std.proofs.Common.{sym, ap, ◌∙◌, eqb-true, false-eqb}
-use Rattle.std.proofs.lemmas.Result.{err_from_is_err_and}
 use Rattle.common.specs.Refusals.{answer_number}
-use Rattle.common.proofs.RefusalLaws.{refusal_some}
-use Rattle.snapshot.proofs.LineLaws.{order-as, in_order_refused, in_order_first, in_order_same, in_order_late}
+use Rattle.snapshot.proofs.LineLaws.{in_order_first, in_order_same, in_order_late}
 use Rattle.snapshot.proofs.lines.in_order.Goals as goal
 use Rattle.snapshot.proofs.lines.in_order.Goals.{then-rules-eq0, else-rules-eq0}
 

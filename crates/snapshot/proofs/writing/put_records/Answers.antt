@@ -1,6 +1,6 @@
 -- `put_records` meets its contract: the records before a place are written.
 -- Assumes nothing.
-use Rattle.std.proofs.Common.{sym, ap, add-one, arith, ◌≡◌}
+use Rattle.std.proofs.Common.{sym, ap, add-one}
 use Rattle.columns.proofs.WriteLaws.{writes_none, writes_then, writes_same}
 use Rattle.snapshot.specs.Written.{first_of}
 use Rattle.snapshot.proofs.writing.put_records.Goals as goal
