@@ -1,8 +1,7 @@
 -- The four ways through a round, by what the functions promise that it calls.
 -- Assumes nothing.
-use Rattle.std.proofs.Common.{◌≡◌, refl, sym, ap, ◌∙◌, subst, Bool, true, false, not, List, [], ◌++◌, ℕ, ◌*◌, ◌/◌, ◌≤◌, arith, eqb, length, take, drop, eqb-true, leb-true}
+use Rattle.std.proofs.Common.{◌≡◌, refl, sym, ap, ◌∙◌, subst, Bool, true, false, List, [], ◌++◌, ℕ, ◌*◌, ◌/◌, ◌≤◌, arith, length, take, drop}
 use mathlib.Core.Option.{Option, none, some}
-use Rattle.common.proofs.Bools.{and_left, and_right, held_from, held-not}
 use Rattle.common.specs.Limits.{record_size}
 use Rattle.follow.specs.declared.state.State.{State}
 use Rattle.intake.specs.Represents.{Represents}
@@ -22,52 +21,21 @@ use Rattle.batch.specs.Handled.{BatchHandles}
 use Rattle.batch.proofs.BatchRight.{batch-represents}
 use Rattle.common.specs.Refusals.{refusal_number, answer_number}
 use Rattle.common.specs.declared.refusals.Refusal.{Refusal}
-use Rattle.common.specs.declared.refusals.Refusal.TheVariants.{ReplyLength, RecordLength, Malformed, NotInLanguage, NameTaken, NotDeclared, TooManyPatterns, Full, NoRule, ListLength, BatchLength, ImageTurnedAway, ImageLength}
+use Rattle.common.proofs.RefusalLaws.{refusal_some}
 use Rattle.std.specs.Prelude.{Result as Answered, Ok, Err, IsErrAnd}
 use Rattle.snapshot.specs.Written.{Kept, Keeps, count_written}
 use Rattle.snapshot.specs.Reading.{RestoredAs, Restores}
+use Rattle.snapshot.proofs.Exactly.{keep_with_room}
 use Rattle.snapshot.proofs.StateImage.{image_of_state}
 use Rattle.round.specs.Running.{round_end, RoundRuns}
 
--- THE IMAGE BUFFER
-
--- the used records stand within the buffer
-pub used-within : (q : Bool) (n used : ℕ) → q ≡ room_fits n used → not q ≡ false → used * 128 ≤ n
-unfolding room_fits
-used-within q n used told h =
-    let e = sym told ∙ held_from q h in
-    let s = eqb-true n 16256 (and_left (eqb n 16256) _ e) in
-    let w = leb-true used 127 (and_right (eqb n 16256) _ e) in
-    omega (arith, s, w)
-
--- and an image buffer of that size has room for every image
-pub room-whole : (q : Bool) (n used : ℕ) → q ≡ room_fits n used → not q ≡ false → 127 * record_size ≤ n
-unfolding room_fits
-room-whole q n used told h = let s = eqb-true n 16256 (and_left (eqb n 16256) _ (sym told ∙ held_from q h)) in omega (arith, s)
-
 -- WHAT IS HANDED BACK
-
--- no refusal has the number 0
-pub refusal-some : (e : Refusal) → refusal_number e ≡ 0 → ⊥
-refusal-some ReplyLength z = absurd (omega (arith, z))
-refusal-some RecordLength z = absurd (omega (arith, z))
-refusal-some Malformed z = absurd (omega (arith, z))
-refusal-some NotInLanguage z = absurd (omega (arith, z))
-refusal-some NameTaken z = absurd (omega (arith, z))
-refusal-some NotDeclared z = absurd (omega (arith, z))
-refusal-some TooManyPatterns z = absurd (omega (arith, z))
-refusal-some Full z = absurd (omega (arith, z))
-refusal-some NoRule z = absurd (omega (arith, z))
-refusal-some ListLength z = absurd (omega (arith, z))
-refusal-some BatchLength z = absurd (omega (arith, z))
-refusal-some ImageTurnedAway z = absurd (omega (arith, z))
-refusal-some ImageLength z = absurd (omega (arith, z))
 
 module _ (image : List ℕ) (used : ℕ) (records replies imageAfter repliesAfter : List ℕ) (x : Answered ℕ Refusal) where
   -- a refusal is handed back, by its number
-  pub refused-end : (e : Refusal) → IsErrAnd x (λ y. y ≡ e) → (n : ℕ) → refusal_number e ≡ n → RoundRuns image used records replies imageAfter repliesAfter (record { number = n; used = used })
+  refused_end : (e : Refusal) → IsErrAnd x (λ y. y ≡ e) → (n : ℕ) → refusal_number e ≡ n → RoundRuns image used records replies imageAfter repliesAfter (record { number = n; used = used })
       → RoundRuns image used records replies imageAfter repliesAfter (round_end used x)
-  refused-end e h n k runs = go x h
+  refused_end e h n k runs = go x h
     where
       go : (y : Answered ℕ Refusal) → IsErrAnd y (λ z. z ≡ e) → RoundRuns image used records replies imageAfter repliesAfter (round_end used y)
       go (Ok a) q = absurd q
@@ -76,14 +44,14 @@ module _ (image : List ℕ) (used : ℕ) (records replies imageAfter repliesAfte
           subst (λ (j : ℕ). RoundRuns image used records replies imageAfter repliesAfter (record { number = j; used = used })) w runs
 
   -- or the new used number, where keeping was not refused
-  pub taken-end : answer_number x ≡ 0 → RoundRuns image used records replies imageAfter repliesAfter (record { number = 0; used = count_written x })
+  taken_end : answer_number x ≡ 0 → RoundRuns image used records replies imageAfter repliesAfter (record { number = 0; used = count_written x })
       → RoundRuns image used records replies imageAfter repliesAfter (round_end used x)
-  taken-end z runs = go x z runs
+  taken_end z runs = go x z runs
     where
       go : (y : Answered ℕ Refusal) → answer_number y ≡ 0 → RoundRuns image used records replies imageAfter repliesAfter (record { number = 0; used = count_written y })
           → RoundRuns image used records replies imageAfter repliesAfter (round_end used y)
       go (Ok n) q h = h
-      go (Err e) q h = absurd (refusal-some e q)
+      go (Err e) q h = absurd (refusal_some e q)
 
 -- KEEPING WITH ROOM
 
@@ -109,7 +77,7 @@ module _ (f : State) (image after : List ℕ) (k : Kept) (h : Keeps f image afte
 
 -- THE FOUR WAYS
 
-module _ (image : List ℕ) (used : ℕ) (records replies : List ℕ) (q : Bool) (told : q ≡ room_fits (length image) used) where
+module _ (image : List ℕ) (used : ℕ) (records replies : List ℕ) where
   abbrev host : HostImage
   host = record { buffer = image; used = used }
 
@@ -117,29 +85,23 @@ module _ (image : List ℕ) (used : ℕ) (records replies : List ℕ) (q : Bool)
   lent = record { records = records; replies = replies }
 
   -- the image buffer or the used number does not fit
-  pub no_room : not q ≡ true → RoundRuns image used records replies image replies (record { number = 13; used = used })
-  no_room h = record { is = sym (by_room host lent (sym told ∙ held-not q h)) }
+  pub no_room : room_fits (length image) used ≡ false → RoundRuns image used records replies image replies (record { number = 13; used = used })
+  no_room h = record { is = sym (by_room host lent h) }
 
-  module _ (h : not q ≡ false) where
-    fits : room_fits (length image) used ≡ true
-    fits = sym told ∙ held_from q h
+  module _ (fits : room_fits (length image) used ≡ true) where
+    -- the used records stand within the buffer
+    pub used_within : used * record_size ≤ length image
+    used_within = let r = room_told host fits in omega (arith, r.size, r.within)
 
     module _ (f : State) (r : Handled) (reads : Restores f (take (used * record_size) image) r) where
-      -- the image is not accepted
-      pub not-accepted : (r.number ≡ 0 → ⊥) → RoundRuns image used records replies image replies (record { number = 12; used = used })
-      not-accepted z = go (restored (take (used * record_size) image)) refl reads.right
+      -- the image is not accepted: that is told, and no other refusal
+      pub not_accepted : (e : Refusal) → r.number ≡ refusal_number e → (x : Answered ℕ Refusal) → IsErrAnd x (λ y. y ≡ e) → RoundRuns image used records replies image replies (round_end used x)
+      not_accepted e n x h = go (restored (take (used * record_size) image)) refl reads.right
         where
-          go : (o : Option PositionMachine) → restored (take (used * record_size) image) ≡ o → RestoredAs f o r → RoundRuns image used records replies image replies (record { number = 12; used = used })
-          go none e k = record { is = sym (by_image host lent fits e) }
-          go (some m) e k = absurd (z k.0)
-
-      -- by 12, and no other number
-      pub restore-number : (r.number ≡ 0 → ⊥) → r.number ≡ 12
-      restore-number z = go (restored (take (used * record_size) image)) reads.right
-        where
-          go : (o : Option PositionMachine) → RestoredAs f o r → r.number ≡ 12
-          go none k = ap (λ (x : Handled). x.number) k
-          go (some m) k = absurd (z k.0)
+          go : (o : Option PositionMachine) → restored (take (used * record_size) image) ≡ o → RestoredAs f o r → RoundRuns image used records replies image replies (round_end used x)
+          go none q k =
+              refused_end image used records replies image replies x e h 12 (sym n ∙ ap (λ (y : Handled). y.number) k) (record { is = sym (by_image host lent fits q) })
+          go (some m) q k = absurd (refusal_some e (sym n ∙ k.0))
 
       -- or it is: the monitor represents the machine that it says
       accepted : r.number ≡ 0 → (m : PositionMachine) × (restored (take (used * record_size) image) ≡ some m) × Represents r.monitor m
@@ -151,40 +113,37 @@ module _ (image : List ℕ) (used : ℕ) (records replies : List ℕ) (q : Bool)
           go (some m) e k = (m, e, k.1)
 
       module _ (z : r.number ≡ 0) (after : List ℕ) (b : Handled) (runs : BatchHandles r.monitor records replies after b) where
-        -- the other two buffers are no batch: nothing was written
-        pub no-batch : (b.number ≡ 0 → ⊥) → RoundRuns image used records replies image after (record { number = 11; used = used })
-        no-batch y = go (batch_fits records replies) refl
+        -- the other two buffers are no batch: that is told, and nothing was written
+        pub no_batch : (e : Refusal) → b.number ≡ refusal_number e → (x : Answered ℕ Refusal) → IsErrAnd x (λ y. y ≡ e) → RoundRuns image used records replies image after (round_end used x)
+        no_batch e n x h = go (batch_fits records replies) refl
           where
-            go : (p : Bool) → batch_fits records replies ≡ p → RoundRuns image used records replies image after (record { number = 11; used = used })
-            go true e = absurd (y (runs.taken e).number)
-            go false e =
+            go : (p : Bool) → batch_fits records replies ≡ p → RoundRuns image used records replies image after (round_end used x)
+            go true q = absurd (refusal_some e (sym n ∙ (runs.taken q).number))
+            go false q =
                 let m = accepted z in
-                let l = (runs.refused e).buffer in
-                record { is = (λ i. (host, record { number = 11; buffer = l i })) ∙ sym (by_batch host lent fits m.0 m.1 e) }
-
-        -- by 11, and no other number
-        pub batch-number : (b.number ≡ 0 → ⊥) → b.number ≡ 11
-        batch-number y = go (batch_fits records replies) refl
-          where
-            go : (p : Bool) → batch_fits records replies ≡ p → b.number ≡ 11
-            go true e = absurd (y (runs.taken e).number)
-            go false e = ap (λ (x : Handled). x.number) (runs.refused e).is
+                let w = runs.refused q in
+                let l = w.buffer in
+                refused_end image used records replies image after x e h 11 (sym n ∙ ap (λ (y : Handled). y.number) w.is)
+                record { is = (λ i. (host, record { number = 11; buffer = l i })) ∙ sym (by_batch host lent fits m.0 m.1 q) }
 
         -- they are one: the image is rewritten for the monitor that it leaves
-        pub rewritten-after : b.number ≡ 0 → (imageAfter : List ℕ) (k : Kept) → Keeps b.monitor image imageAfter k
-            → RoundRuns image used records replies imageAfter after (record { number = 0; used = k.count })
-        rewritten-after y imageAfter k keeps = go (batch_fits records replies) refl
+        pub rewritten_after : b.number ≡ 0 → (imageAfter : List ℕ) (x : Answered ℕ Refusal) → Keeps b.monitor image imageAfter (record { number = answer_number x; count = count_written x; monitor = b.monitor })
+            → RoundRuns image used records replies imageAfter after (round_end used x)
+        rewritten_after y imageAfter x keeps = go (batch_fits records replies) refl
           where
-            go : (p : Bool) → batch_fits records replies ≡ p → RoundRuns image used records replies imageAfter after (record { number = 0; used = k.count })
+            room : 127 * record_size ≤ length image
+            room = let s = (room_told host fits).size in omega (arith, s)
+
+            go : (p : Bool) → batch_fits records replies ≡ p → RoundRuns image used records replies imageAfter after (round_end used x)
             go false e = absurd (omega (arith, y, ap (λ (x : Handled). x.number) (runs.refused e).is))
             go true e =
                 let m = (accepted z).0 in
                 let said = (accepted z).1 in
                 let u = left machine_step m (batch_calls records replies) in
                 let l : Lasting u = left_lasting (batch_calls records replies) m (restored_lasting (take (used * record_size) image) m said) in
-                let s = (room_told host fits).size in
-                let x = subst (λ (p : Bool). (◌≡◌ {A = Answer} (record { number = b.number; buffer = after }) (batch_by p machine_step m records replies).1) × Represents b.monitor (batch_by p machine_step m records replies).0) e
+                let g = subst (λ (p : Bool). (◌≡◌ {A = Answer} (record { number = b.number; buffer = after }) (batch_by p machine_step m records replies).1) × Represents b.monitor (batch_by p machine_step m records replies).0) e
                 (batch-represents r.monitor b.monitor records replies (record { number = b.number; buffer = after }) m (accepted z).2 runs) in
-                let i = kept-rewritten b.monitor image imageAfter k keeps u x.1 (omega (arith, image_fits u l, s)) used in
-                let a = ap (λ (w : Answer). w.buffer) x.0 in
+                let i = kept-rewritten b.monitor image imageAfter _ keeps u g.1 (omega (arith, image_fits u l, room)) used in
+                let a = ap (λ (w : Answer). w.buffer) g.0 in
+                taken_end image used records replies imageAfter after x (keep_with_room b.monitor b.monitor image _ _ imageAfter keeps room)
                 record { is = (λ j. (i j, record { number = 0; buffer = a j })) ∙ sym (by_taking host lent fits m said e) }
