@@ -29,6 +29,17 @@ use Rattle.snapshot.proofs.Exactly.{keep_with_room}
 use Rattle.snapshot.proofs.StateImage.{image_of_state}
 use Rattle.round.specs.Running.{round_end, RoundRuns}
 
+-- THE IMAGE BUFFER
+
+module _ (image : List ℕ) (used : ℕ) (fits : room_fits (length image) used ≡ true) where
+  -- the used records stand within the buffer
+  pub used_within : used * record_size ≤ length image
+  used_within = let r = room_told (record { buffer = image; used = used }) fits in omega (arith, r.size, r.within)
+
+  -- and an image buffer of that size has room for every image
+  room_whole : 127 * record_size ≤ length image
+  room_whole = let r = room_told (record { buffer = image; used = used }) fits in omega (arith, r.size)
+
 -- WHAT IS HANDED BACK
 
 module _ (image : List ℕ) (used : ℕ) (records replies imageAfter repliesAfter : List ℕ) (x : Answered ℕ Refusal) where
@@ -89,10 +100,6 @@ module _ (image : List ℕ) (used : ℕ) (records replies : List ℕ) where
   no_room h = record { is = sym (by_room host lent h) }
 
   module _ (fits : room_fits (length image) used ≡ true) where
-    -- the used records stand within the buffer
-    pub used_within : used * record_size ≤ length image
-    used_within = let r = room_told host fits in omega (arith, r.size, r.within)
-
     module _ (f : State) (r : Handled) (reads : Restores f (take (used * record_size) image) r) where
       -- the image is not accepted: that is told, and no other refusal
       pub not_accepted : (e : Refusal) → r.number ≡ refusal_number e → (x : Answered ℕ Refusal) → IsErrAnd x (λ y. y ≡ e) → RoundRuns image used records replies image replies (round_end used x)
@@ -132,7 +139,7 @@ module _ (image : List ℕ) (used : ℕ) (records replies : List ℕ) where
         rewritten_after y imageAfter x keeps = go (batch_fits records replies) refl
           where
             room : 127 * record_size ≤ length image
-            room = let s = (room_told host fits).size in omega (arith, s)
+            room = room_whole image used fits
 
             go : (p : Bool) → batch_fits records replies ≡ p → RoundRuns image used records replies imageAfter after (round_end used x)
             go false e = absurd (omega (arith, y, ap (λ (x : Handled). x.number) (runs.refused e).is))

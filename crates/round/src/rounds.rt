@@ -11,6 +11,7 @@ use snapshot::{keep, restore};
 // many of its records are used now. Refused, where the image buffer is not of 127 records or `used` is above them; then where the image is not accepted; then
 // where the other two buffers are no batch: each leaves all buffers as lent. The used number is looked at before it is multiplied, so that no product wraps.
 // Every image has room, so keeping is not refused.
+#[tactic(auto, using(crate::proofs::RoundLaws::no_room, crate::proofs::RoundLaws::used_within))]
 pub fn run_round(
     image: &mut [u8],
     used: u32,

@@ -1,17 +1,11 @@
 -- `run_round` goes one of the four ways, each by what the functions called promise.
 -- Assumes nothing.
 use Rattle.std.proofs.Common.{refl, sym, ◌∙◌, length-take-le}
-use Rattle.round.proofs.RoundLaws.{no_room, used_within, not_accepted, no_batch, rewritten_after}
+use Rattle.round.proofs.RoundLaws.{used_within, not_accepted, no_batch, rewritten_after}
 use Rattle.round.proofs.rounds.run_round.Goals as goal
 
-pub returns-then-not-room_fits : goal.returns-then-not-room_fits
-returns-then-not-room_fits c = no_room _ _ _ _ (sym c.room_fits.ensures ∙ c.if-not-room_fits.true)
-
-pub slice_bounds-restore-end : goal.slice_bounds-restore-end
-slice_bounds-restore-end c = used_within _ _ c.args.records.now c.args.replies.now (sym c.room_fits.ensures ∙ c.if-not-room_fits.false)
-
 pub slice_bounds-restore-end-2 : goal.slice_bounds-restore-end-2
-slice_bounds-restore-end-2 c = sym (length-take-le _ _ (used_within _ _ c.args.records.now c.args.replies.now (sym c.room_fits.ensures ∙ c.if-not-room_fits.false)))
+slice_bounds-restore-end-2 c = sym (length-take-le _ _ (used_within _ _ (sym c.room_fits.ensures ∙ c.if-not-room_fits.false)))
 
 pub returns-in_err-restore : goal.returns-in_err-restore
 returns-in_err-restore c =
