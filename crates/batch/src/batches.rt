@@ -10,6 +10,7 @@ use monitor::handle;
 
 // A batch: each record as a single call, on the monitor that the one before left and on its own 50 bytes of the reply buffer, whatever the replies say. Or
 // refused, with the monitor and both buffers as they were, where the buffers are not those of 0 to 512 records and a reply to each.
+#[tactic(auto, using(crate::proofs::BatchLaws::begun))]
 pub fn handle_batch(monitor: &mut State, records: &[u8], replies: &mut [u8]) -> Result<(), Refusal>
     ensures { BatchedAs monitor.old records.now replies.old (record { number = answer_number result; buffer = replies.new }) monitor.new }
 {

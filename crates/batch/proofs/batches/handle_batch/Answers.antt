@@ -1,11 +1,8 @@
 -- `handle_batch` makes the single calls of a batch in turn: `Progress` holds before each.
 -- Assumes nothing.
-use Rattle.std.proofs.Common.{sym, ◌∙◌, arith, rules}
-use Rattle.batch.proofs.BatchLaws.{begun, called}
+use Rattle.std.proofs.Common.{arith}
+use Rattle.batch.proofs.BatchLaws.{called}
 use Rattle.batch.proofs.batches.handle_batch.Goals as goal
-
-pub loop-i-init : goal.loop-i-init
-loop-i-init c = let e = sym c.fits.ensures ∙ c.if-not-fits.false in (e, begun _ _ _ _ _ _ e (search rules) (search rules) (search rules))
 
 pub loop-i-preserved : goal.loop-i-preserved
 loop-i-preserved c =
