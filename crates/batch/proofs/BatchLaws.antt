@@ -1,8 +1,7 @@
 -- A batch worked record by record.
 -- Assumes nothing.
-use Rattle.std.proofs.Common.{◌≡◌, refl, sym, ap, ap₂, ◌∙◌, subst, true, false, List, [], ◌∷◌, ◌++◌, append_assoc, append-nil, ℕ, zero, suc, ◌+◌, ◌*◌, ◌/◌, ◌≤◌, ◌<◌, arith, length, take, drop, length-append, length-drop, length-take-le, drop-drop, take_at, drop_at}
+use Rattle.std.proofs.Common.{◌≡◌, refl, sym, ap, ap₂, ◌∙◌, subst, true, List, [], ◌∷◌, ◌++◌, append_assoc, append-nil, ℕ, zero, suc, ◌+◌, ◌*◌, ◌/◌, ◌≤◌, arith, length, take, drop, length-append, length-drop, length-take-le, drop-drop, take_at, drop_at}
 use borrow.Rule.Slice.PartMut.{put_mid}
-use Rattle.common.proofs.Bools.{true_not_false}
 use Rattle.follow.specs.declared.state.State.{State}
 use Rattle.book.specs.Decide.{Call, Answer}
 use Rattle.book.specs.Session.{run_end}
@@ -11,9 +10,8 @@ use Rattle.book.proofs.Runs.{run-last}
 use Rattle.book.proofs.Batches.{buffers-append}
 use Rattle.monitor.specs.Handled.{Handles, Handled}
 use Rattle.monitor.specs.Sessions.{Session}
-use Rattle.batch.specs.Handled.{BatchHandles}
 use Rattle.batch.proofs.SizeLaws.{whole-records, replies_for_each}
-use Rattle.batch.proofs.PartLaws.{Filled, filled_none, part_lent, same_room, filled_more, filled-all}
+use Rattle.batch.proofs.PartLaws.{Filled, filled_none, part_lent, same_room, filled_more}
 
 -- some calls of the batch are made: a run of single calls from f to m, whose buffers stand in front; the records of `rest` are left, and the next is record i
 pub record Progress (f : State) (s b : List ℕ) (m : State) (left : List ℕ) (size : ℕ) (rest : List ℕ) (i : ℕ) : Type 0 where
@@ -106,28 +104,3 @@ module _ {f : State} {s b : List ℕ} {m : State} {left : List ℕ} {size : ℕ}
         let handled = subst (λ (k : ℕ). Handles m x (take 50 (drop k left)) y r) at (subst (λ (k : ℕ). Handles m x (take k (drop to left)) y r) w g) in
         rw (at, w, n, p.whole, c)
         (made_more y r handled (sized ∙ ap₂ (λ (k l : ℕ). length (take k (drop l left))) w at ∙ fifty))
-
-  -- less than a record is left: all are worked
-  pub finished : length rest < size → batch_fits s b ≡ true → BatchHandles f s b left (record { number = 0; monitor = m })
-  finished few fits = go p.more p.calls p.records p.room
-    where
-      short : length rest < 128
-      short = let n = p.whole in omega arith
-
-      go : (n : ℕ) → batch_calls s b ≡ p.made ++ calls_in n rest (drop (i * 50) b) → length rest ≡ n * 128 → i * 50 + n * 50 ≡ length b → BatchHandles f s b left (record { number = 0; monitor = m })
-      go zero e k l =
-          record {
-            taken = λ t.
-                record {
-                  number = refl;
-                  answers = p.done;
-                  session = subst (λ (cs : List Call). Session f cs p.done m) (sym (e ∙ append-nil p.made)) p.session;
-                  replies = filled-all b (buffers p.done) left (i * 50) p.filled (omega (arith, l));
-                };
-            refused = λ e. absurd (true_not_false (batch_fits s b) fits e);
-          }
-      go (suc n) e k l = absurd (omega (arith, k, short))
-
--- the buffers are not those of a batch
-pub turned_away : (f : State) (s b : List ℕ) → batch_fits s b ≡ false → BatchHandles f s b b (record { number = 11; monitor = f })
-turned_away f s b e = record { taken = λ t. absurd (true_not_false (batch_fits s b) t e); refused = λ n. record { is = refl; buffer = refl } }
