@@ -30,10 +30,10 @@ columns-are r a b p q = ⊎_elim short (λ h. ⊎_elim (some h) (full h) (split 
     full h k = let e : b - a ≡ 8 = omega arith in rw (from h, e) refl
 
 -- seven digits leave room for one more, and there are eight columns at most
-pub room-left : (r : List ℕ) (a b k n : ℕ) → a ≡ min (length r) 10 → b ≡ min (length r) 18 → k < length (take (b - a) (drop a r)) → n ≡ value_from 0 (take k (take (b - a) (drop a r)))
+pub room_left : (r : List ℕ) (a b k n : ℕ) → a ≡ min (length r) 10 → b ≡ min (length r) 18 → k < length (take (b - a) (drop a r)) → n ≡ value_from 0 (take k (take (b - a) (drop a r)))
     → n < 268435456
 unfolding marks_in
-room-left r a b k n p q h e =
+room_left r a b k n p q h e =
     let l = length-take 8 (drop 10 r) in
     let c = columns-are r a b p q in
     let d = ap length c in

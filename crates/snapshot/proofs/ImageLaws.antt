@@ -54,3 +54,6 @@ module _ (s : List ℕ) where
           go : (o : Option PositionMachine) → TakenAs o (Err c) g → ImageAs o r
           go none h = q
           go (some t) h = absurd (true≢false (sym h.0))
+
+-- the ways of an image
+pub ruleset image_ways = (image_uneven, image_refused, image_given, image_marks_refused)

@@ -41,6 +41,7 @@ fn hex_value(b: u8) -> u64
 }
 
 // The number in the eight columns from 10 on of a record; where there are fewer bytes, in those that there are.
+#[tactic(auto, using(crate::proofs::DigitLaws::room_left, crate::proofs::DigitLaws::digit_more, book::proofs::MarkRecords::hex_below))]
 pub fn marks_in(bytes: &[u8]) -> u64
     ensures { result ≡ marks_in 8 bytes.now }
 {

@@ -47,7 +47,7 @@ fn give_marks(state: &mut State, records: &[u8]) -> Result<(), Refusal>
 }
 
 // The state that an image says.
-#[tactic(auto, using(crate::proofs::ImageLaws::image_uneven, crate::proofs::ImageLaws::image_refused, crate::proofs::ImageLaws::image_given, crate::proofs::ImageLaws::image_marks_refused))]
+#[tactic(auto, using(crate::proofs::ImageLaws::image_ways))]
 fn read_image(image: &[u8]) -> Result<State, Refusal>
     ensures { ImageRead image.now result }
 {
