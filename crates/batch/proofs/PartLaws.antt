@@ -1,7 +1,7 @@
 -- A lent buffer answered part by part: what is answered stands in front, what is not is as it was lent.
 -- Assumes nothing.
 use Rattle.std.proofs.Common.{◌≡◌, refl, sym, ap, ap₂, ◌∙◌, subst, List, [], ◌∷◌, ◌++◌, append_assoc, append-nil, ℕ, suc, ◌+◌, ◌-◌, ◌≤◌, ◌<◌, arith, length, take, drop, get_or, set, length-append, length-drop, drop_of_length-le, drop-drop, drop-cons}
-use lib.Seq.{drop-append_seam, take-append_seam, set-append_seam}
+use Rattle.std.proofs.Math.Seq.{drop-append_seam, take-append_seam, set-append_seam}
 use borrow.Rule.Slice.PartMut.{put_mid}
 
 -- the buffer b, with the answers `done` in its first `to` bytes

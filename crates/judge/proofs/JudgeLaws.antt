@@ -1,7 +1,7 @@
 -- The judge's answer by the number, the size of the list, and the list.
 -- Assumes nothing.
 use Rattle.std.proofs.Common.{◌≡◌, refl, sym, ap, ◌∙◌, subst, true, false, List, [], ◌∷◌, ⊎_elim, ℕ, zero, suc, ◌/◌, ◌≤◌, ◌<◌, arith, length, take}
-use mathlib.Core.Option.{none, some}
+use Rattle.std.proofs.Math.Option.{none, some}
 use Rattle.patterns.proofs.TableNames.{split}
 use Rattle.follow.specs.State as state
 use Rattle.follow.specs.declared.state.State.{State}

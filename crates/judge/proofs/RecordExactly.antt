@@ -1,7 +1,7 @@
 -- A record of 128 bytes is answered exactly as rows 3, 4 and 6 say.
 -- Assumes nothing.
 use Rattle.std.proofs.Common.{◌≡◌, refl, ap, ◌∙◌, Bool, true, false, List, ℕ, arith, length}
-use mathlib.Core.Option.{Option, none, some}
+use Rattle.std.proofs.Math.Option.{Option, none, some}
 use Rattle.lexer.specs.Words.{same}
 use Rattle.common.proofs.Bools.{true_not_false}
 use Rattle.grammar.specs.AsRead.{Line, role, rule, event}

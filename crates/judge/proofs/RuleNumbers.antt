@@ -1,9 +1,9 @@
 -- The rule of a number.
 -- Assumes nothing.
 use Rattle.std.proofs.Common.{◌≡◌, refl, sym, ap, ◌∙◌, Bool, true, false, cond, List, [], ◌∷◌, ℕ, ◌≤◌, ◌<◌, arith, eqb, length, eqb-true, eq-eqb, ne_eqb}
-use mathlib.Core.Option.{Option, none, some}
-use lib.ListN.{length-map}
-use borrow.Author.Tests.{eqb-false}
+use Rattle.std.proofs.Math.Option.{Option, none, some}
+use Rattle.std.proofs.lemmas.List.{length-map}
+use Rattle.std.proofs.lemmas.Bool.{eqb-false}
 use Rattle.intake.specs.Names.{Rule}
 use Rattle.intake.specs.Machine.{PositionRule}
 use Rattle.judge.specs.Judge.{rule_numbered}

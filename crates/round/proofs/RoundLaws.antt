@@ -1,7 +1,7 @@
 -- The four ways through a round, by what the functions promise that it calls.
 -- Assumes nothing.
 use Rattle.std.proofs.Common.{◌≡◌, refl, sym, ap, ◌∙◌, subst, Bool, true, false, List, [], ◌++◌, ℕ, ◌*◌, ◌/◌, ◌≤◌, arith, length, take, drop}
-use mathlib.Core.Option.{Option, none, some}
+use Rattle.std.proofs.Math.Option.{Option, none, some}
 use Rattle.common.specs.Limits.{record_size}
 use Rattle.follow.specs.declared.state.State.{State}
 use Rattle.intake.specs.Represents.{Represents}

@@ -1,7 +1,7 @@
 -- What keeping and restoring promise, in C-12's words and exactly: of any monitor, and of one that represents a machine.
 -- Assumes nothing.
 use Rattle.std.proofs.Common.{◌≡◌, refl, sym, ap, ◌∙◌, subst, ◌↔◌, List, [], ℕ, ◌*◌, ◌≤◌, arith, length, take, take_at}
-use mathlib.Core.Option.{Option, none, some}
+use Rattle.std.proofs.Math.Option.{Option, none, some}
 use Rattle.common.specs.Limits.{record_size, max_roles, max_rules}
 use Rattle.follow.specs.declared.state.State.{State}
 use Rattle.follow.proofs.CappedLaws.{capped_le}

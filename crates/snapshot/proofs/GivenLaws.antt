@@ -1,7 +1,7 @@
 -- Laws of the marks that an image gives: rule by rule they are what its records say, the last rule first, and the state with them represents the machine with them.
 -- Assumes nothing.
 use Rattle.std.proofs.Common.{◌≡◌, refl, sym, ap, ap₂, ◌∙◌, subst, false, List, [], ◌∷◌, ◌++◌, ⊎_elim, ℕ, zero, suc, ◌+◌, ◌*◌, ◌/◌, ◌<◌, arith, length, take, drop, get_or, drop-drop}
-use mathlib.Core.Option.{Option, none, some}
+use Rattle.std.proofs.Math.Option.{Option, none, some}
 use Rattle.names.specs.Unpacked.{unpacked}
 use Rattle.names.proofs.UnpackedLaws.{unpacked-name}
 use Rattle.grammar.specs.Size.{size_past}

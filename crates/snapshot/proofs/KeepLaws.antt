@@ -1,7 +1,7 @@
 -- Laws of keeping: how long an image is, and what a buffer that is long enough or too short comes to.
 -- Assumes nothing.
 use Rattle.std.proofs.Common.{◌≡◌, refl, sym, ap, ap₂, ◌∙◌, List, ◌++◌, ℕ, zero, suc, ◌+◌, ◌-◌, ◌*◌, ◌/◌, ◌<◌, ◌≤◌, arith, min, length, drop, length-append, take_all, le-leb}
-use borrow.Author.Tests.{lt-leb}
+use Rattle.std.proofs.lemmas.Bool.{lt-leb}
 use Rattle.columns.specs.Writing.{fitting, laid, Writes}
 use Rattle.columns.proofs.WriteLaws.{writes_same}
 use Rattle.follow.specs.declared.state.State.{State}

@@ -1,7 +1,7 @@
 -- Laws of one line of an image: what declaring it gives is what taking it gives, where a role line stands before every rule line.
 -- Assumes nothing.
 use Rattle.std.proofs.Common.{◌≡◌, refl, sym, ap, ◌∙◌, subst, Bool, true, false, List, ℕ, ◌≤◌, arith, leb, ltb, length, eq-eqb, ne_eqb}
-use mathlib.Core.Option.{Option, none, some}
+use Rattle.std.proofs.Math.Option.{Option, none, some}
 use Rattle.common.specs.Limits.{max_patterns, max_roles, max_rules}
 use Rattle.lexer.specs.Words.{same}
 use Rattle.grammar.specs.AsRead.{Line, role, rule, event}

@@ -1,7 +1,7 @@
 -- Keeping and restoring, by what the functions promise: the results are those of the machine with positions, and the monitor left represents the machine left.
 -- Assumes nothing.
 use Rattle.std.proofs.Common.{◌≡◌, sym, ap, ◌∙◌, subst, List, ℕ}
-use mathlib.Core.Option.{Option, none, some}
+use Rattle.std.proofs.Math.Option.{Option, none, some}
 use Rattle.follow.specs.declared.state.State.{State}
 use Rattle.intake.specs.Machine.{PositionMachine}
 use Rattle.intake.specs.Represents.{Represents}

@@ -1,8 +1,7 @@
 -- The image of a state that represents a machine is that machine's.
 -- Assumes nothing.
 use Rattle.std.proofs.Common.{◌≡◌, refl, sym, ap, ap₂, ◌∙◌, List, [], ◌∷◌, ◌++◌, map, append_assoc, append-nil, ℕ, zero, suc, ◌-◌, arith, length, drop, get_or}
-use mathlib.Core.List.{map-append}
-use lib.Seq.{drop-append-le}
+use Rattle.std.proofs.lemmas.List.{map-append, drop-append-le}
 use Rattle.common.specs.Limits.{max_rules}
 use Rattle.names.specs.Unpacked.{unpacked}
 use Rattle.names.proofs.UnpackedLaws.{unpacked-name}

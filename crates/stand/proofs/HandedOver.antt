@@ -1,7 +1,7 @@
 -- Every list of operations can be handed over: there are kinds, sizes and buffers that hold just these operations.
 -- Assumes nothing.
 use Rattle.std.proofs.Common.{◌≡◌, refl, sym, ap, ap₂, ◌∙◌, true, List, [], ◌∷◌, ◌++◌, map, ℕ, suc, ◌+◌, length, drop, length-append}
-use lib.Seq.{take-append_seam, drop-append_seam}
+use Rattle.std.proofs.Math.Seq.{take-append_seam, drop-append_seam}
 use Rattle.book.specs.Operations.{Operation, call, batch, keep, restore}
 use Rattle.stand.specs.Calls.{total}
 use Rattle.stand.specs.Kinds.{batch_kind, keep_kind, restore_kind, operation_of, operations_of, all_known, OperationsFit}

@@ -2,7 +2,7 @@
 -- Assumes nothing.
 use Rattle.std.proofs.Common.{◌≡◌, Result, Ok, Err, true, false, ℕ, zero, suc, List, [], ◌∷◌, ◌++◌, map, length, take, drop, eqb, leb, refl, sym, ap, ◌∙◌, subst, arith, is_ok, eqb-true, eq-eqb, ne_eqb}
 use Rattle.std.specs.List.{list_all}
-use borrow.Author.Tests.{lt-leb}
+use Rattle.std.proofs.lemmas.Bool.{lt-leb}
 use Rattle.common.proofs.Bools.{and_left, and_right, and_both, true_not_false}
 use Rattle.follow.specs.declared.state.State.{State}
 use Rattle.book.specs.Decide.{Answer}
