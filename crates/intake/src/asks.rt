@@ -3,7 +3,7 @@ ghost use Rattle.std.specs.Prelude.{◌≡◌, take};
 ghost use Rattle.intake.specs.Asking.{request_as, Asks};
 
 use code::{Event, event_line};
-use common::Refusal;
+use common::{Refusal, prefix};
 use frame::{RecordKind, framed, text};
 
 // What a record asks that is not refused: a line, to be declared; or an event, to be worked, with ids for names.
@@ -13,13 +13,6 @@ pub enum Request {
     Event(Event),
 }
 
-// The first count names; where there are fewer, those that there are.
-pub fn held(names: &[u64], count: usize) -> &[u64]
-    ensures { result.now ≡ take count names.now }
-{
-    &names[..count.min(names.len())]
-}
-
 // What any bytes ask, by the first count names: rows 2 and 3, a line, or an event with its rows 4 and 6.
 pub fn ask(bytes: &[u8], names: &[u64], count: usize) -> Result<Request, Refusal>
     ensures { Asks (take count names.now) bytes.now (request_as result) }
@@ -27,7 +20,7 @@ pub fn ask(bytes: &[u8], names: &[u64], count: usize) -> Result<Request, Refusal
     match framed(bytes)? {
         RecordKind::Line => Ok(Request::Line),
         RecordKind::Event => {
-            let event = event_line(text(bytes), held(names, count))?;
+            let event = event_line(text(bytes), prefix(names, count))?;
             Ok(Request::Event(event))
         }
     }

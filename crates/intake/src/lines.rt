@@ -4,9 +4,8 @@ ghost use Rattle.follow.specs.Declaring.{declared_as};
 ghost use Rattle.intake.specs.Declaring.{LineDeclared};
 ghost use Rattle.intake.specs.Represents.{SheetSized, table_of};
 
-use crate::asks::held;
 use code::{role_line, rule_line};
-use common::Refusal;
+use common::{Refusal, prefix};
 use follow::{Sheet, State};
 use grammar::{LineKind, line_kind};
 
@@ -15,7 +14,7 @@ fn role_names(sheet: &Sheet) -> &[u64]
     ensures names { result.now ≡ table_of sheet.now }
     ensures sized { SheetSized sheet.now }
 {
-    held(&sheet.names, sheet.role_count)
+    prefix(&sheet.names, sheet.role_count)
 }
 
 // The text of a line: refusals 4 to 8, or the role or rule joins, and its packed name is the answer. Where it is refused, nothing changes.
