@@ -9,6 +9,7 @@ use follow::State;
 
 // The image in front of the buffer, the rest of which stays, and how many records it is; or refused, with the buffer as lent, where it is too short. That is
 // looked at first.
+#[tactic(auto, using(crate::proofs::KeepLaws::kept_short))]
 pub fn keep(monitor: &State, image: &mut [u8]) -> Result<u32, Refusal>
     ensures { KeptAs monitor.now image.old (answer_number result) (count_written result) image.new monitor.now }
 {
