@@ -14,15 +14,19 @@ pub enum RecordKind {
     Event,
 }
 
-// By byte 0 of a record: `L` is a line and `E` an event.
-#[tactic(auto, unfolding(crate::specs::Record::kind_by))]
-fn kind(byte: u8) -> Result<RecordKind, Refusal>
-    ensures { result ≡ answered (kind_by byte) }
-{
-    match byte {
-        b'L' => Ok(RecordKind::Line),
-        b'E' => Ok(RecordKind::Event),
-        _ => Err(Refusal::Malformed),
+impl TryFrom<u8> for RecordKind {
+    type Error = Refusal;
+
+    ghost try_from_gives = { λ byte kind. kind ≡ answered (kind_by byte) };
+
+    // By byte 0 of a record: `L` is a line and `E` an event.
+    #[tactic(auto, unfolding(crate::specs::Record::kind_by))]
+    fn try_from(byte: u8) -> Result<RecordKind, Refusal> {
+        match byte {
+            b'L' => Ok(RecordKind::Line),
+            b'E' => Ok(RecordKind::Event),
+            _ => Err(Refusal::Malformed),
+        }
     }
 }
 
@@ -37,5 +41,5 @@ pub fn framed(bytes: &[u8]) -> Result<RecordKind, Refusal>
     if bytes[127] != b'\n' || !all_classed(text(bytes)) {
         return Err(Refusal::Malformed);
     }
-    kind(bytes[0])
+    RecordKind::try_from(bytes[0])
 }
