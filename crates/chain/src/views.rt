@@ -6,6 +6,7 @@ use follow::State;
 
 // A state's rules as the chain reads them: their rows, ends and positions, the table of parents, and how many rules there are. The slices may have any
 // lengths and hold anything.
+// Kept: slices side by side, as they are the state's own arrays, lent; the functions took them one by one, of any lengths, and ask no more now.
 #[derive(Clone, Copy)]
 pub struct View<'a> {
     pub rows: &'a [u8],

@@ -12,8 +12,8 @@ use lexer::{Lexeme, WordKind, next};
 const CODE_SIZE: usize = 126;
 
 // The code of a text: its bytes, how many of them count, and whether a name in it is not held.
-// Kept: a length beside an array, as there is no heap; `bytes` lends those that count. And `unknown` is a flag, no refusal: the code of every text is named,
-// and a rule's name is looked at (refusal 5) before the names in it (refusal 6).
+// Kept: a length beside an array. Memory is fixed, and a code is copied, which the kit's `ArrayVec` is not; `bytes` lends those that count. And `unknown` is a
+// flag, no refusal: the code of every text is named, and a rule's name is looked at (refusal 5) before the names in it (refusal 6).
 #[derive(Clone, Copy)]
 pub struct Encoded {
     pub code: [u8; CODE_SIZE],

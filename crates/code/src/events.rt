@@ -8,7 +8,7 @@ use common::sizes::EVENT_SIZE;
 use lexer::{Lexeme, WordKind, next};
 
 // An event (document 01: act): the ids of its roles, of which len count.
-// Kept: a length beside an array, as there is no heap; `roles` lends those that count.
+// Kept: a length beside an array. Memory is fixed, and an event is copied, which the kit's `ArrayVec` is not; `roles` lends those that count.
 #[derive(Clone, Copy)]
 pub struct Event {
     pub len: usize,

@@ -2,8 +2,8 @@
 ghost use Rattle.std.specs.Prelude.{◌≡◌};
 ghost use Rattle.code.specs.Code.{id_of};
 
-// The id that no role has: of a name that is not held, and of one held past the ids of seven bits. It is part of the code itself: a row and an
-// image keep it as byte 255.
+// The id that no role has: of a name that is not held, and of one held past the ids of seven bits.
+// Kept: a number, no Option. `encode` codes every text, and such a name is byte 255 of the code; a rule whose code has one is refused (6).
 pub const UNHELD: u8 = 127;
 
 // How many ids of seven bits there are besides that one.

@@ -1,10 +1,9 @@
 // The records of an open file.
-//
-// Kept: a record's 128 bytes are written as a number. `common` has the constant RECORD_SIZE, and this crate builds on no other.
 ghost use Rattle.std.specs.Prelude.{◌≡◌, ◌<◌, IfOk, length, take};
 ghost use Rattle.std.specs.Io.KnownBytes.{Consumes, IsAtEnd};
 ghost use Rattle.input.specs.Records.{IsPrefixLen, HandedOn};
 
+use common::sizes::RECORD_SIZE;
 use std::io;
 use std::io::Read;
 
@@ -34,6 +33,7 @@ pub fn read_full<R: Read>(file: &mut R, bytes: &mut [u8]) -> io::Result<usize>
     ensures end { IfOk result (λ n. n < length bytes.new → IsAtEnd (R.remaining file.new)) }
 {
     let mut done = 0;
+    // Kept: a loop over reads. How many bytes come is each read's own.
     while done < bytes.len() {
         let n = one_read(file, &mut bytes[done..])?;
         if n == 0 {
@@ -46,7 +46,7 @@ pub fn read_full<R: Read>(file: &mut R, bytes: &mut [u8]) -> io::Result<usize>
 
 // Reads the next record to the start of `bytes`, and answers how many bytes it has: 128, fewer in a short last record, none where nothing is left. A
 // read that fails is an error, and brings no record.
-pub fn next<R: Read>(file: &mut R, bytes: &mut [u8; 128]) -> io::Result<usize>
+pub fn next<R: Read>(file: &mut R, bytes: &mut [u8; RECORD_SIZE]) -> io::Result<usize>
     ensures count { IfOk result (λ n. IsPrefixLen n bytes.new) }
     ensures bytes { IfOk result (λ n. Consumes (R.remaining file.old) (R.remaining file.new) (take n bytes.new)) }
     ensures end { IfOk result (λ n. n < 128 → IsAtEnd (R.remaining file.new)) }
@@ -66,7 +66,7 @@ pub fn each_record<R: Read, F: FnMut(&[u8]) -> bool>(
 {
     // Kept: a counted loop, since a proved loop has to end and nothing says that a file does. The proof alone reads `count`.
     for count in 0..u64::MAX {
-        let mut bytes = [0u8; 128];
+        let mut bytes = [0u8; RECORD_SIZE];
         let len = next(file, &mut bytes)?;
         if len == 0 {
             return Ok(Stop::Ended);
@@ -75,7 +75,7 @@ pub fn each_record<R: Read, F: FnMut(&[u8]) -> bool>(
         if !written {
             return Ok(Stop::Unwritten);
         }
-        if len < 128 {
+        if len < RECORD_SIZE {
             return Ok(Stop::Ended);
         }
     }

@@ -5,7 +5,7 @@ ghost use Rattle.judge.specs.Judging.{lent_by, lent_of};
 use follow::Sheet;
 
 // All of a sheet but the names of its rules, lent: the first `roles` names and parents count, and the first `rules` rows and ends.
-// Kept: parallel slices, as they are the sheet's own arrays, lent. They may have any lengths.
+// Kept: slices side by side, as they are the sheet's own arrays, lent; the judge took them one by one, of any lengths, and asks no more now.
 #[derive(Clone, Copy)]
 pub struct SheetView<'a> {
     pub names: &'a [u64],

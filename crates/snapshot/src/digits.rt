@@ -11,6 +11,7 @@ use columns::put;
 fn hex_digit(n: u64) -> u8
     ensures { result ≡ hex_digit (n % 16) }
 {
+    // Kept: `as`. The number is below 16; `u8::try_from` would need a value for a failure that cannot come.
     match (n % 16) as u8 {
         d @ 0..=9 => b'0' + d,
         d => b'A' + (d - 10),

@@ -1,4 +1,5 @@
-// The library for other languages: calls over byte buffers and numbers. A slice passes as a pointer and a length.
+// The library for other languages: calls over byte buffers and numbers. `stand_c` exports them under their C names.
+// Kept: as many parameters as C's calls have, which pass them one by one.
 //
 // Every call takes any bytes of any length and keeps nothing between calls. Where sizes do not fit it says so by its number and writes nothing.
 #![tactic(auto)]

@@ -24,7 +24,7 @@ impl TryFrom<u8> for Operation {
 
     ghost try_from_gives = { λ kind operation. operation ≡ named_by kind };
 
-    // The operation that a kind names. Only here do kinds have their numbers.
+    // The operation that a kind names.
     fn try_from(kind: u8) -> Result<Operation, Refusal> {
         match kind {
             0 => Ok(Operation::Call),

@@ -9,6 +9,7 @@ use common::answer_number;
 
 // What a host hands over to be read: a kind for each operation, and past the last kind single calls; the records one after the other; and how many
 // bytes of the records and of the replies each operation has.
+// Kept: slices side by side: so the C call hands them over.
 #[derive(Clone, Copy)]
 pub struct Session<'a> {
     pub kinds: &'a [u8],

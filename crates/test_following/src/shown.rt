@@ -4,7 +4,7 @@ use std::io;
 
 // A packed name without the spaces that pad it.
 pub fn name(rt: &impl Print, packed: u64) -> io::Result<()> {
-    // Kept: a loop over columns, as `names` lends them one by one.
+    // Kept: column by column, which tries `names::column`.
     for i in 0..NAME_SIZE {
         let b = names::column(packed, i);
         if b != b' ' {
