@@ -21,7 +21,11 @@ def bare(text):
     """The text without comments, ghost lines, clauses and attributes; strings and bytes become one letter."""
     text = re.sub(r"//[^\n]*", "", text)
     text = re.sub(r"^\s*(ghost .*|#!?\[.*\])$", "", text, flags=re.M)
-    text = re.sub(r"^\s*(ensures|requires)\b.*$", "", text, flags=re.M)
+    out, clause = [], False
+    for line in text.split("\n"):
+        clause = (clause or re.match(r"\s*(ensures|requires)\b", line) is not None) and not re.match(r"\s*\{", line)
+        out.append("" if clause else line)
+    text = "\n".join(out)
     return re.sub(r'b?"(\\.|[^"\\])*"', '"s"', text)
 
 
@@ -75,7 +79,7 @@ for path in sorted(glob.glob("crates/*/src/*.rt")):
         body = item[item.index("{"):] if "{" in item else ""
         if kind == "enum":
             variants = [v for v in re.findall(r"^\s+([A-Z][A-Za-z]*)(\(|,|\{)", body, re.M)]
-            if len(variants) == 2 and {p for _, p in variants} & {",", "("} and ("None" in body or "Err" in body or "Ok" in body):
+            if len(variants) == 2 and len({p for _, p in variants}) == 2:
                 note("1 enums of the shape of Option or Result", place)
         if kind == "struct":
             if re.search(r": bool,", body):
@@ -90,8 +94,8 @@ for path in sorted(glob.glob("crates/*/src/*.rt")):
             note("1 functions with a refusal's or a kind's number", place)
         if re.search(r"\b(while|loop)\b", body):
             note("3 functions with while or loop", place)
-        if re.search(r"\bfor \w+ in [^{]*\.\.", body):
-            note("3 functions with for over a range", place)
+        if re.search(r"\bfor \w+ in [^{]*\.\.", body) or re.search(r"\bfor \(\w+, \w+\) in ", body):
+            note("3 functions with for over a range or with an index", place)
         if re.search(r"\b(\w+) \+= 1;", body):
             note("3 functions that count by += 1", place)
         if re.search(r"\bas (u8|u16|u32|u64|usize)\b", body):

@@ -7,6 +7,7 @@ use common::{Refusal, prefix};
 use frame::{RecordKind, framed, text};
 
 // What a record asks that is not refused: a line, to be declared; or an event, to be worked, with ids for names.
+// Kept: no Option of an event. A line is no absence of one.
 #[derive(Clone, Copy)]
 pub enum Request {
     Line,

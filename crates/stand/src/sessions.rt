@@ -51,7 +51,8 @@ impl<'a> Session<'a> {
         let mut at = 0;
         let mut to = 0;
         for (k, length) in self.lengths.iter().enumerate() {
-            // Kept: casts. `usize` has no `From<u32>`, and `try_from` would make a refusal that cannot happen.
+            // Kept: places by sums, since each operation's parts have lengths of their own; and casts: `usize` has no `From<u32>`, and `try_from` would make
+            // a refusal that cannot happen.
             let end = at + *length as usize;
             let past = to + self.sizes[k] as usize;
             let operation = operation_at(self.kinds, k);
