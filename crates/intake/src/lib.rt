@@ -7,4 +7,4 @@ mod asks;
 mod lines;
 
 pub use asks::{Request, ask};
-pub use lines::declare;
+pub use lines::{declare, role_names};

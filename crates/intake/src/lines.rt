@@ -10,7 +10,7 @@ use follow::{Sheet, State};
 use grammar::{LineKind, line_kind};
 
 // The packed names of the roles held. The arrays' lengths are those of their types.
-fn role_names(sheet: &Sheet) -> &[u64]
+pub fn role_names(sheet: &Sheet) -> &[u64]
     ensures names { result.now ≡ table_of sheet.now }
     ensures sized { SheetSized sheet.now }
 {

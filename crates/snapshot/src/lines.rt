@@ -5,7 +5,7 @@ use common::Refusal;
 use common::sizes::RECORD_SIZE;
 use follow::State;
 use frame::text;
-use intake::{Request, ask, declare};
+use intake::{Request, ask, declare, role_names};
 
 // The text of a line in its place: a role line stands before every rule line.
 fn in_order(state: &mut State, text: &[u8]) -> Result<(), Refusal>
@@ -25,7 +25,7 @@ fn in_order(state: &mut State, text: &[u8]) -> Result<(), Refusal>
 fn take_line(state: &mut State, bytes: &[u8]) -> Result<(), Refusal>
     ensures { LineTaken state.old bytes.now result state.new }
 {
-    match ask(bytes, &state.sheet.names, state.sheet.role_count)? {
+    match ask(bytes, role_names(&state.sheet))? {
         Request::Line => in_order(state, text(bytes)),
         Request::Event(_) => Err(Refusal::ImageTurnedAway),
     }

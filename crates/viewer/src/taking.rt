@@ -5,13 +5,13 @@ use crate::view::Taken;
 use common::Refusal;
 use follow::State;
 use frame::text;
-use intake::{Request, ask, declare};
+use intake::{Request, ask, declare, role_names};
 
 // What becomes of a record, in the order of the table of refusals.
 pub fn take(state: &mut State, bytes: &[u8]) -> Result<Taken, Refusal>
     ensures { Takes state.old bytes.now state.new result }
 {
-    match ask(bytes, &state.sheet.names, state.sheet.role_count)? {
+    match ask(bytes, role_names(&state.sheet))? {
         Request::Line => {
             let name = declare(state, text(bytes))?;
             Ok(Taken::Declared(name))

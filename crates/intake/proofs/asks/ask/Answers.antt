@@ -21,9 +21,9 @@ pub returns-in_err-event-in-Event : goal.returns-in_err-event-in-Event
 returns-in_err-event-in-Event c =
     let p = err_from_is_err_and c.from_residual-in_err-event-in-Event.result c.from_residual-in_err-event-in-Event.ensures.1 in
     ask_event _ _ _ (frame_event _ (sym c.framed.ensures ∙ c.in_ok-framed.was ∙ ap Ok c.in-Event.is))
-    (ap request_as p.1 ∙ ap (λ x. refusal (refusal_number x)) p.2 ∙ ap event_as (sym c.in_err-event-in-Event.was ∙ (rw (c.text.ensures, c.prefix.ensures) at c.event_line.ensures)) ∙ event_answered _)
+    (ap request_as p.1 ∙ ap (λ x. refusal (refusal_number x)) p.2 ∙ ap event_as (sym c.in_err-event-in-Event.was ∙ (rw c.text.ensures at c.event_line.ensures)) ∙ event_answered _)
 
 pub returns-in_ok-event-in-Event : goal.returns-in_ok-event-in-Event
 returns-in_ok-event-in-Event c =
     ask_event _ _ _ (frame_event _ (sym c.framed.ensures ∙ c.in_ok-framed.was ∙ ap Ok c.in-Event.is))
-    (ap event_as (sym c.in_ok-event-in-Event.was ∙ (rw (c.text.ensures, c.prefix.ensures) at c.event_line.ensures)) ∙ event_answered _)
+    (ap event_as (sym c.in_ok-event-in-Event.was ∙ (rw c.text.ensures at c.event_line.ensures)) ∙ event_answered _)

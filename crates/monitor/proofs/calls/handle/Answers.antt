@@ -18,7 +18,7 @@ pub returns-in-Err : goal.returns-in-Err
 returns-in-Err c =
     let m = c.args.monitor.now in
     handled_whole m _ _ (refused_with m (refusal_number c.in-Err.refusal)) _ _ c.if-reply-ne-REPLY_SIZE.false
-    (record_refused m _ _ (request_as (Err c.in-Err.refusal)) c.in-Err.ensures refl refl) c.refused.ensures
+    (record_refused m _ _ (request_as (Err c.in-Err.refusal)) (rw c.role_names.ensures.names at c.in-Err.ensures) refl refl) c.refused.ensures
 
 -- a line
 pub returns-in-Ok-Line : goal.returns-in-Ok-Line
@@ -27,11 +27,11 @@ returns-in-Ok-Line c =
     let h = c.line.ensures in
     rw h.is
     (handled_whole m _ _ (line_answered h.line) _ _ c.if-reply-ne-REPLY_SIZE.false
-    (record_line m _ _ _ (rw c.in-Ok-Line.field-0-is at c.in-Ok-Line.ensures) refl h.line (rw c.text.ensures at h.declared) refl) h.written)
+    (record_line m _ _ _ (rw (c.in-Ok-Line.field-0-is, c.role_names.ensures.names) at c.in-Ok-Line.ensures) refl h.line (rw c.text.ensures at h.declared) refl) h.written)
 
 -- an event
 pub returns-in-Ok-Event : goal.returns-in-Ok-Event
 returns-in-Ok-Event c =
     let m = c.args.monitor.now in
     let l = c.if-reply-ne-REPLY_SIZE.false in
-    handled_whole m _ _ _ _ _ l (record_event m _ _ _ (rw c.in-Ok-Event.field-0-is at c.in-Ok-Event.ensures) refl (event-answered m _ _ _ _ c.event.ensures l)) (written-there _ _ l)
+    handled_whole m _ _ _ _ _ l (record_event m _ _ _ (rw (c.in-Ok-Event.field-0-is, c.role_names.ensures.names) at c.in-Ok-Event.ensures) refl (event-answered m _ _ _ _ c.event.ensures l)) (written-there _ _ l)

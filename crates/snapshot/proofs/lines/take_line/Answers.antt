@@ -8,10 +8,10 @@ use Rattle.snapshot.proofs.lines.take_line.Goals as goal
 pub returns-in_err-ask : goal.returns-in_err-ask
 returns-in_err-ask c =
     let p = err_from_is_err_and c.from_residual.result c.from_residual.ensures.1 in
-    taken-as p.1 (line_turned c.args.state.now _ _ (rw c.in_err-ask.was at c.ask.ensures) _ refl)
+    taken-as p.1 (line_turned c.args.state.now _ _ (rw (c.in_err-ask.was, c.role_names.ensures.names) at c.ask.ensures) _ refl)
 
 pub returns-in-Line : goal.returns-in-Line
-returns-in-Line c = line_taken c.args.state.now _ _ (rw (c.in_ok-ask.was, c.in-Line.is) at c.ask.ensures) refl _ _ (rw c.text.ensures at c.in_order.ensures)
+returns-in-Line c = line_taken c.args.state.now _ _ (rw (c.in_ok-ask.was, c.in-Line.is, c.role_names.ensures.names) at c.ask.ensures) refl _ _ (rw c.text.ensures at c.in_order.ensures)
 
 pub returns-in-Event : goal.returns-in-Event
-returns-in-Event c = event_turned c.args.state.now _ _ (rw (c.in_ok-ask.was, c.in-Event.is) at c.ask.ensures) _ refl
+returns-in-Event c = event_turned c.args.state.now _ _ (rw (c.in_ok-ask.was, c.in-Event.is, c.role_names.ensures.names) at c.ask.ensures) _ refl
