@@ -100,17 +100,24 @@ module _ (s : List ℕ) where
   mark-other b (found.Mark m) t h f = absurd (f m refl)
   mark-other b (found.Other o) t h f = leaves (mark_is b) (other o) t.now (other-led o t h) refl
 
+  -- a word of the kind of that number, or of another
+  pub word-yes : (n : ℕ) (k : WordKind) (w t : Bor (List ℕ)) → FirstToken s (Some (found.Word k w, t)) → kind_number k ≡ n → ReadsAs (word_is n) s (Some t)
+  unfolding word_is
+  word-yes n k w t h e =
+      let u = word-led k w t h in
+      takes (word_is n) (word u.0) t u.0 u.2 (rw (eq-eqb (kind_of u.0) n (u.1 ∙ e)) refl)
+
+  pub word-no : (n : ℕ) (k : WordKind) (w t : Bor (List ℕ)) → FirstToken s (Some (found.Word k w, t)) → (kind_number k ≡ n → ⊥) → ReadsAs (word_is n) s None
+  unfolding word_is
+  word-no n k w t h f =
+      let u = word-led k w t h in
+      leaves (word_is n) (word u.0) t.now u.2 (rw (ne_eqb (kind_of u.0) n (λ e. f (sym u.1 ∙ e))) refl)
+
   -- a word of that kind, or of another
   pub word-read : (k kind : WordKind) (w t : Bor (List ℕ)) (q : Bool) → FirstToken s (Some (found.Word k w, t)) → Decides q (k ≡ kind)
       → ReadsAs (word_is (kind_number kind)) s (then_some q t)
-  unfolding word_is
-  word-read k kind w t true h d =
-      let n = word-led k w t h in
-      takes (word_is (kind_number kind)) (word n.0) t n.0 n.2 (rw (eq-eqb (kind_of n.0) (kind_number kind) (n.1 ∙ ap kind_number (d.0 refl))) refl)
-  word-read k kind w t false h d =
-      let n = word-led k w t h in
-      let z : kind_of n.0 ≡ kind_number kind → ⊥ = λ e. let y = d.1 (kind_number_same k kind (sym n.1 ∙ e)) in cc in
-      leaves (word_is (kind_number kind)) (word n.0) t.now n.2 (rw (ne_eqb (kind_of n.0) (kind_number kind) z) refl)
+  word-read k kind w t true h d = word-yes (kind_number kind) k w t h (ap kind_number (d.0 refl))
+  word-read k kind w t false h d = word-no (kind_number kind) k w t h (λ e. let y = d.1 (kind_number_same k kind e) in cc)
 
   -- no word
   pub word-other : (kind : ℕ) (l : declared.Lexeme) (t : Bor (List ℕ)) → FirstToken s (Some (l, t)) → ((k : WordKind) (w : Bor (List ℕ)) → l ≡ found.Word k w → ⊥) → ReadsAs (word_is kind) s None

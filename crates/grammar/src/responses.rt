@@ -4,6 +4,7 @@ ghost use Rattle.grammar.specs.Readings.{ReadsAs};
 
 use crate::leaves::{mark_at, place_at, word_at};
 use lexer::words::WordKind;
+use lexer::{Lexeme, next};
 
 // A name, or # and a place.
 fn slot(s: &[u8]) -> Option<&[u8]>
@@ -41,15 +42,10 @@ fn template(s: &[u8]) -> Option<&[u8]>
 pub fn response(s: &[u8]) -> Option<&[u8]>
     ensures { ReadsAs response_of s.now result }
 {
-    if let Some(left) = word_at(s, WordKind::Pass) {
-        return Some(left);
+    let (token, left) = next(s)?;
+    match token {
+        Lexeme::Word(WordKind::Pass | WordKind::Hold, _) => Some(left),
+        Lexeme::Word(WordKind::Send | WordKind::Anew, _) => template(left),
+        _ => None,
     }
-    if let Some(left) = word_at(s, WordKind::Hold) {
-        return Some(left);
-    }
-    if let Some(left) = word_at(s, WordKind::Send) {
-        return template(left);
-    }
-    let left = word_at(s, WordKind::Anew)?;
-    template(left)
 }

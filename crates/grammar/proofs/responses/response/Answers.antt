@@ -1,24 +1,22 @@
--- `response` answers as its parser does, one law for each of its four words and one for none of them.
-use Rattle.lexer.specs.Words.{kind_number}
-use Rattle.grammar.proofs.LevelResponses.{response-pass, response-hold, response-send, response-anew, response_bad}
+-- `response` answers as its parser does, one law for each pair of its words and one for none of them.
+use Rattle.std.proofs.Common.{rules}
+use Rattle.grammar.proofs.LevelResponses.{response_empty, response_other, response_alone, response_sent, response_word}
 use Rattle.grammar.proofs.responses.response.Goals as goal
+use Rattle.grammar.proofs.responses.response.Goals.{in_default-via-in-Word+in_default, in_default-via-in_default}
 
-pub returns-in-Some : goal.returns-in-Some
-unfolding kind_number
-returns-in-Some c = response-pass _ _ c.in-Some.ensures
+pub returns-in_err-token : goal.returns-in_err-token
+returns-in_err-token c = rw c.from_residual.ensures (response_empty _ c.in_err-token.ensures)
 
-pub returns-in-Some-word_at : goal.returns-in-Some-word_at
-unfolding kind_number
-returns-in-Some-word_at c = response-hold _ _ c.in_default.ensures c.in-Some-word_at.ensures
+pub returns-in-Word-Pass-default : goal.returns-in-Word-Pass-default
+returns-in-Word-Pass-default c = response_alone _ _ _ _ (rw c.in-Word-Pass-default.is at c.in_ok-token.ensures) (λ f. grind rules)
 
-pub returns-in-Some-word_at-2 : goal.returns-in-Some-word_at-2
-unfolding kind_number
-returns-in-Some-word_at-2 c = response-send _ _ _ c.in_default.ensures c.in_default-word_at.ensures c.in-Some-word_at-2.ensures c.template.ensures
+pub returns-in-Word-Send-default : goal.returns-in-Word-Send-default
+returns-in-Word-Send-default c = response_sent _ _ _ _ (rw c.in-Word-Send-default.is at c.in_ok-token.ensures) _ (λ f. grind rules) c.template.ensures
 
-pub returns-in_err-left : goal.returns-in_err-left
-unfolding kind_number
-returns-in_err-left c = rw c.from_residual.ensures (response_bad _ c.in_default.ensures c.in_default-word_at.ensures c.in_default-word_at-2.ensures c.in_err-left.ensures)
-
-pub returns : goal.returns
-unfolding kind_number
-returns c = response-anew _ _ _ c.in_default.ensures c.in_default-word_at.ensures c.in_default-word_at-2.ensures c.in_ok-left.ensures c.template-2.ensures
+pub returns-in_default : goal.returns-in_default
+returns-in_default c =
+    elim c.in_default.branch [
+      | in_default-via-in-Word+in_default w ↦
+          response_word _ _ _ _ (rw w.in_default.is at c.in_ok-token.ensures) (λ e. search rules) (λ e. search rules) (λ e. search rules) (λ e. search rules)
+      | in_default-via-in_default w ↦ response_other _ _ _ c.in_ok-token.ensures (λ k v e. search rules)
+    ]
