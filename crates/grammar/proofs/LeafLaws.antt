@@ -1,10 +1,9 @@
 -- The readers of one token: a law for each answer.
 -- Assumes nothing.
-use Rattle.std.proofs.Common.{◌≡◌, ℕ, ◌<◌, ◌+◌, Bool, true, false, List, [], ◌∷◌, length, eqb, Option, Some, None, Bor, ◌&&◌, not, leb, ◌-◌, refl, ap, sym, ◌∙◌, arith, eq-eqb, ne_eqb, le_of_lt}
+use Rattle.std.proofs.Common.{◌≡◌, ℕ, ◌<◌, ◌≤◌, ◌+◌, Bool, true, false, List, [], ◌∷◌, length, eqb, Option, Some, None, Bor, not, ◌-◌, refl, ap, sym, ◌∙◌, arith, eq-eqb, ne_eqb, le_of_lt}
 use Rattle.std.specs.Bool.{then_some, Decides}
 use Rattle.std.proofs.lemmas.Bool.Decides.{nat_tests}
 use Rattle.std.specs.Option.{is_some}
-use Rattle.std.specs.List.{list_any}
 use Rattle.lexer.specs.Class.{within}
 use Rattle.lexer.specs.Words.{kind_of, kind_number}
 use Rattle.lexer.specs.Tokens.{Token, word, mark, other, tokens, last, Next}
@@ -32,8 +31,8 @@ led s k t l e q = record {
   all = e ∙ ap (λ (u : List ℕ). k ∷ tokens u) (sym q);
 }
 
--- no other kind than a digit's has the number of a place
-no_place : (k : WordKind) → ((d : ℕ) → k ≡ kinds.Digit d → ⊥) → within 13 16 (kind_number k) ≡ false
+-- no other kind than that of a digit from 1 to 4 has the number of a place
+no_place : (k : WordKind) → ((d : ℕ) → k ≡ kinds.Digit d → 1 ≤ d → d ≤ 4 → ⊥) → within 13 16 (kind_number k) ≡ false
 unfolding kind_number
 no_place kinds.Name f = refl
 no_place kinds.Role f = refl
@@ -46,7 +45,9 @@ no_place kinds.Pass f = refl
 no_place kinds.Hold f = refl
 no_place kinds.Send f = refl
 no_place kinds.Anew f = refl
-no_place (kinds.Digit d) f = absurd (f d refl)
+no_place (kinds.Digit d) f =
+    let g : 1 ≤ d → d ≤ 4 → ⊥ = f d refl in
+    grind (arith, nat_tests)
 no_place kinds.Other f = refl
 
 -- what each answer of `next` tells
@@ -126,34 +127,28 @@ module _ (s : List ℕ) where
   word-other kind (found.Mark m) t h f = leaves (word_is kind) (mark m) t.now (mark-led m t h) refl
   word-other kind (found.Other o) t h f = leaves (word_is kind) (other o) t.now (other-led o t h) refl
 
-  -- a digit
-  pub place-digit : (d : ℕ) (w t : Bor (List ℕ)) → FirstToken s (Some (found.Word (kinds.Digit d) w, t)) → ReadsAs place_is s (then_some (leb 1 d && leb d 4) t)
+  -- a digit from 1 to 4
+  pub place-yes : (d : ℕ) (w t : Bor (List ℕ)) → FirstToken s (Some (found.Word (kinds.Digit d) w, t)) → 1 ≤ d → d ≤ 4 → ReadsAs place_is s (Some t)
   unfolding place_is kind_number
-  place-digit d w t h = go (leb 1 d && leb d 4) refl
-    where
-      n : (u : List ℕ) × (kind_of u ≡ 12 + d) × Led s (word u) t.now
-      n = word-led (kinds.Digit d) w t h
+  place-yes d w t h l m =
+      let n = word-led (kinds.Digit d) w t h in
+      let e : within 13 16 (12 + d) ≡ true = grind (arith, nat_tests) in
+      takes place_is (word n.0) t (kind_of n.0 - 12) n.2 (rw (n.1, e) refl)
 
-      same : within 13 16 (12 + d) ≡ (leb 1 d && leb d 4)
-      same = grind (arith, nat_tests)
-
-      go : (q : Bool) → (leb 1 d && leb d 4) ≡ q → ReadsAs place_is s (then_some q t)
-      go true e = takes place_is (word n.0) t (kind_of n.0 - 12) n.2 (rw (n.1, same, e) refl)
-      go false e = leaves place_is (word n.0) t.now n.2 (rw (n.1, same, e) refl)
-
-  -- a word of another kind
-  pub place-word : (k : WordKind) (w t : Bor (List ℕ)) → FirstToken s (Some (found.Word k w, t)) → ((d : ℕ) → k ≡ kinds.Digit d → ⊥) → ReadsAs place_is s None
+  -- a word whose kind has the number of no place
+  place-word : (k : WordKind) (w t : Bor (List ℕ)) → FirstToken s (Some (found.Word k w, t)) → within 13 16 (kind_number k) ≡ false → ReadsAs place_is s None
   unfolding place_is
-  place-word k w t h f =
+  place-word k w t h e =
       let n = word-led k w t h in
-      leaves place_is (word n.0) t.now n.2 (rw (n.1, no_place k f) refl)
+      leaves place_is (word n.0) t.now n.2 (rw (n.1, e) refl)
 
-  -- no word
-  pub place-other : (l : declared.Lexeme) (t : Bor (List ℕ)) → FirstToken s (Some (l, t)) → ((k : WordKind) (w : Bor (List ℕ)) → l ≡ found.Word k w → ⊥) → ReadsAs place_is s None
+  -- no digit from 1 to 4
+  pub place-no : (l : declared.Lexeme) (t : Bor (List ℕ)) → FirstToken s (Some (l, t))
+      → ((d : ℕ) (w : Bor (List ℕ)) → l ≡ found.Word (kinds.Digit d) w → 1 ≤ d → d ≤ 4 → ⊥) → ReadsAs place_is s None
   unfolding place_is
-  place-other (found.Word k w) t h f = absurd (f k w refl)
-  place-other (found.Mark m) t h f = leaves place_is (mark m) t.now (mark-led m t h) refl
-  place-other (found.Other o) t h f = leaves place_is (other o) t.now (other-led o t h) refl
+  place-no (found.Word k w) t h f = place-word k w t h (no_place k (λ d e. f d w (ap (λ (x : WordKind). found.Word x w) e)))
+  place-no (found.Mark m) t h f = leaves place_is (mark m) t.now (mark-led m t h) refl
+  place-no (found.Other o) t h f = leaves place_is (other o) t.now (other-led o t h) refl
 
   -- whether no token is left
   pub ends-is : (r : Option (declared.Lexeme × Bor (List ℕ))) (q : Bool) → FirstToken s r → is_some r ≡ not q → q ≡ is_none (tokens s)
@@ -167,23 +162,29 @@ module _ (s : List ℕ) where
   ends-is (Some (found.Other o, t)) true h e = let z : ◌≡◌ {A = ℕ} 0 1 = cc in absurd (omega arith)
   ends-is (Some (found.Other o, t)) false h e = rw (other-led o t h).all refl
 
-  -- whether a factor begins: no token, any word, any mark, another byte
-  pub begins-none : FirstToken s None → begins (tokens s) ≡ false
+  -- no factor begins where no token is left
+  pub begins-none : FirstToken s None → false ≡ begins (tokens s)
   unfolding begins
   begins-none h = rw (none-led h) refl
 
-  pub begins-word : (k : WordKind) (w t : Bor (List ℕ)) (q : Bool) → FirstToken s (Some (found.Word k w, t)) → Decides q (k ≡ kinds.Any) → q ≡ begins (tokens s)
+  -- a factor begins with each of its three marks and with any
+  pub begins-yes : (l : declared.Lexeme) (t : Bor (List ℕ)) → FirstToken s (Some (l, t)) → ((m : ℕ) → l ≡ found.Mark m → (m ≡ 60 → ⊥) → (m ≡ 40 → ⊥) → m ≡ 91)
+      → ((k : WordKind) (w : Bor (List ℕ)) → l ≡ found.Word k w → k ≡ kinds.Any) → ((o : ℕ) → l ≡ found.Other o → ⊥) → true ≡ begins (tokens s)
   unfolding begins kind_number
-  begins-word k w t true h d = let n = word-led k w t h in rw (n.2.all, n.1, eq-eqb (kind_number k) 4 (ap kind_number (d.0 refl))) refl
-  begins-word k w t false h d =
+  begins-yes (found.Word k w) t h a b d = let n = word-led k w t h in rw (n.2.all, n.1, b k w refl) refl
+  begins-yes (found.Mark m) t h a b d =
+      let y : (m ≡ 60 → ⊥) → (m ≡ 40 → ⊥) → m ≡ 91 = a m refl in
+      rw (mark-led m t h).all (grind (arith, nat_tests))
+  begins-yes (found.Other o) t h a b d = absurd (d o refl)
+
+  -- and with nothing else
+  pub begins-no : (l : declared.Lexeme) (t : Bor (List ℕ)) → FirstToken s (Some (l, t)) → ((m : ℕ) → l ≡ found.Mark m → (m ≡ 60 → ⊥) × (m ≡ 40 → ⊥) × (m ≡ 91 → ⊥))
+      → ((k : WordKind) (w : Bor (List ℕ)) → l ≡ found.Word k w → k ≡ kinds.Any → ⊥) → false ≡ begins (tokens s)
+  unfolding begins kind_number
+  begins-no (found.Word k w) t h a b =
       let n = word-led k w t h in
-      let z : kind_number k ≡ 4 → ⊥ = λ e. let y = d.1 (kind_number_same k kinds.Any e) in cc in
-      rw (n.2.all, n.1, ne_eqb (kind_number k) 4 z) refl
-
-  pub begins-mark : (m : ℕ) (t : Bor (List ℕ)) → FirstToken s (Some (found.Mark m, t)) → begins (tokens s) ≡ list_any (λ b. eqb b m) (60 ∷ 40 ∷ 91 ∷ [])
-  unfolding begins
-  begins-mark m t h = rw (mark-led m t h).all (grind (arith, nat_tests))
-
-  pub begins-other : (o : ℕ) (t : Bor (List ℕ)) → FirstToken s (Some (found.Other o, t)) → begins (tokens s) ≡ false
-  unfolding begins
-  begins-other o t h = rw (other-led o t h).all refl
+      rw (n.2.all, n.1, ne_eqb (kind_number k) 4 (λ e. b k w refl (kind_number_same k kinds.Any e))) refl
+  begins-no (found.Mark m) t h a b =
+      let y = a m refl in
+      rw (mark-led m t h).all (grind (arith, nat_tests))
+  begins-no (found.Other o) t h a b = rw (other-led o t h).all refl

@@ -35,11 +35,8 @@ pub fn place_at(s: &[u8]) -> Option<&[u8]>
     ensures { ReadsAs place_is s.now result }
 {
     let (token, left) = next(s)?;
-    let Lexeme::Word(kind, _) = token else {
-        return None;
-    };
-    match kind {
-        WordKind::Digit(digit) => (1..=4).contains(&digit).then_some(left),
+    match token {
+        Lexeme::Word(WordKind::Digit(1..=4), _) => Some(left),
         _ => None,
     }
 }

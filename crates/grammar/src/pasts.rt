@@ -23,14 +23,13 @@ fn stars(s: &[u8]) -> &[u8]
 fn factor_begins(s: &[u8]) -> bool
     ensures { result ≡ begins (tokens s.now) }
 {
-    let Some((token, _)) = next(s) else {
-        return false;
-    };
-    match token {
-        Lexeme::Mark(mark) => b"<([".contains(&mark),
-        Lexeme::Word(kind, _) => kind == WordKind::Any,
-        Lexeme::Other(_) => false,
-    }
+    matches!(
+        next(s),
+        Some((
+            Lexeme::Mark(b'<' | b'(' | b'[') | Lexeme::Word(WordKind::Any, _),
+            _
+        ))
+    )
 }
 
 // A past: sequences joined by +.

@@ -1,15 +1,21 @@
-use Rattle.std.proofs.Common.{◌∙◌, sym, rules}
-use Rattle.grammar.proofs.LeafLaws.{begins-none, begins-word, begins-mark, begins-other}
+use Rattle.std.proofs.Common.{rules}
+use Rattle.grammar.proofs.LeafLaws.{begins-none, begins-yes, begins-no}
 use Rattle.grammar.proofs.pasts.factor_begins.Goals as goal
 
+pub returns-in-Some-Mark-eq60-default : goal.returns-in-Some-Mark-eq60-default
+returns-in-Some-Mark-eq60-default c = begins-yes _ _ _ c.in-Some-Mark-eq60-default.ensures (λ m e f g. grind rules) (λ k w e. grind rules) (λ o e. grind rules)
+
+pub returns-in-Some-Mark-eq60-default-2 : goal.returns-in-Some-Mark-eq60-default-2
+returns-in-Some-Mark-eq60-default-2 c = begins-yes _ _ _ c.in-Some-Mark-eq60-default.ensures (λ m e f g. grind rules) (λ k w e. grind rules) (λ o e. grind rules)
+
 pub returns-in_default : goal.returns-in_default
-returns-in_default c = sym (begins-none _ c.in_default.ensures)
+returns-in_default c = begins-no _ c.in_default.field-0.0 c.in_default.field-0.1 (rw c.in_default.is at c.next.ensures) (λ m e. (λ f. grind rules, λ f. grind rules, λ f. grind rules)) (λ k w e f. grind rules)
 
-pub returns-in-Mark : goal.returns-in-Mark
-returns-in-Mark c = c.contains.ensures.value ∙ sym (begins-mark _ _ _ (rw c.in-Mark.is at c.in-Some.ensures))
+pub returns-in_default-2 : goal.returns-in_default-2
+returns-in_default-2 c = begins-no _ c.in_default.field-0.0 c.in_default.field-0.1 (rw c.in_default.is at c.next.ensures) (λ m e. (λ f. grind rules, λ f. grind rules, λ f. grind rules)) (λ k w e f. grind rules)
 
-pub returns-in-Word : goal.returns-in-Word
-returns-in-Word c = begins-word _ _ _ _ _ (rw c.in-Word.is at c.in-Some.ensures) (search rules, search rules)
+pub returns-in_default-3 : goal.returns-in_default-3
+returns-in_default-3 c = begins-no _ c.in_default.field-0.0 c.in_default.field-0.1 (rw c.in_default.is at c.next.ensures) (λ m e. (λ f. grind rules, λ f. grind rules, λ f. grind rules)) (λ k w e f. grind rules)
 
-pub returns-in-Other : goal.returns-in-Other
-returns-in-Other c = sym (begins-other _ _ _ (rw c.in-Other.is at c.in-Some.ensures))
+pub returns-in_default-4 : goal.returns-in_default-4
+returns-in_default-4 c = begins-none _ (rw c.in_default.is at c.next.ensures)
