@@ -163,28 +163,28 @@ module _ (s : List ℕ) where
   ends-is (Some (found.Other o, t)) false h e = rw (other-led o t h).all refl
 
   -- no factor begins where no token is left
-  pub begins-none : FirstToken s None → false ≡ begins (tokens s)
+  pub begins_none : FirstToken s None → false ≡ begins (tokens s)
   unfolding begins
-  begins-none h = rw (none-led h) refl
+  begins_none h = rw (none-led h) refl
 
   -- a factor begins with each of its three marks and with any
-  pub begins-yes : (l : declared.Lexeme) (t : Bor (List ℕ)) → FirstToken s (Some (l, t)) → ((m : ℕ) → l ≡ found.Mark m → (m ≡ 60 → ⊥) → (m ≡ 40 → ⊥) → m ≡ 91)
+  pub begins_yes : (l : declared.Lexeme) (t : Bor (List ℕ)) → FirstToken s (Some (l, t)) → ((m : ℕ) → l ≡ found.Mark m → (m ≡ 60 → ⊥) → (m ≡ 40 → ⊥) → m ≡ 91)
       → ((k : WordKind) (w : Bor (List ℕ)) → l ≡ found.Word k w → k ≡ kinds.Any) → ((o : ℕ) → l ≡ found.Other o → ⊥) → true ≡ begins (tokens s)
   unfolding begins kind_number
-  begins-yes (found.Word k w) t h a b d = let n = word-led k w t h in rw (n.2.all, n.1, b k w refl) refl
-  begins-yes (found.Mark m) t h a b d =
+  begins_yes (found.Word k w) t h a b d = let n = word-led k w t h in rw (n.2.all, n.1, b k w refl) refl
+  begins_yes (found.Mark m) t h a b d =
       let y : (m ≡ 60 → ⊥) → (m ≡ 40 → ⊥) → m ≡ 91 = a m refl in
       rw (mark-led m t h).all (grind (arith, nat_tests))
-  begins-yes (found.Other o) t h a b d = absurd (d o refl)
+  begins_yes (found.Other o) t h a b d = absurd (d o refl)
 
   -- and with nothing else
-  pub begins-no : (l : declared.Lexeme) (t : Bor (List ℕ)) → FirstToken s (Some (l, t)) → ((m : ℕ) → l ≡ found.Mark m → (m ≡ 60 → ⊥) × (m ≡ 40 → ⊥) × (m ≡ 91 → ⊥))
+  pub begins_no : (l : declared.Lexeme) (t : Bor (List ℕ)) → FirstToken s (Some (l, t)) → ((m : ℕ) → l ≡ found.Mark m → (m ≡ 60 → ⊥) × (m ≡ 40 → ⊥) × (m ≡ 91 → ⊥))
       → ((k : WordKind) (w : Bor (List ℕ)) → l ≡ found.Word k w → k ≡ kinds.Any → ⊥) → false ≡ begins (tokens s)
   unfolding begins kind_number
-  begins-no (found.Word k w) t h a b =
+  begins_no (found.Word k w) t h a b =
       let n = word-led k w t h in
       rw (n.2.all, n.1, ne_eqb (kind_number k) 4 (λ e. b k w refl (kind_number_same k kinds.Any e))) refl
-  begins-no (found.Mark m) t h a b =
+  begins_no (found.Mark m) t h a b =
       let y = a m refl in
       rw (mark-led m t h).all (grind (arith, nat_tests))
-  begins-no (found.Other o) t h a b = rw (other-led o t h).all refl
+  begins_no (found.Other o) t h a b = rw (other-led o t h).all refl

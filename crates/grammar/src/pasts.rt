@@ -20,15 +20,13 @@ fn stars(s: &[u8]) -> &[u8]
 }
 
 // Whether a factor begins.
+#[tactic(auto, using(crate::proofs::LeafLaws::begins_none, crate::proofs::LeafLaws::begins_yes, crate::proofs::LeafLaws::begins_no))]
 fn factor_begins(s: &[u8]) -> bool
     ensures { result ≡ begins (tokens s.now) }
 {
     matches!(
         next(s),
-        Some((
-            Lexeme::Mark(b'<' | b'(' | b'[') | Lexeme::Word(WordKind::Any, _),
-            _
-        ))
+        Some((Lexeme::Mark(b'<' | b'(' | b'['), _) | (Lexeme::Word(WordKind::Any, _), _))
     )
 }
 
