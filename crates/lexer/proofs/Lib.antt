@@ -9,3 +9,4 @@ pub mod KindLaws
 pub mod KindNumbers
 pub mod WordLaws
 pub mod RenderLaws
+pub mod ReservedLaws

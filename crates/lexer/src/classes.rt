@@ -15,7 +15,8 @@ pub static CLASSES: [u8; 256] = [
     0, 0, 0, 0, 0, 0, 0, 0, 0, 0, 0, 0, 0, 0, 0, 0, 0, 0, 0, 0, 0, 0, 0, 0, 0, 0, 0, 0, 0, 0, 0, 0,
 ];
 
-// The class of a byte. The classes go by the numbers 0 to 6 that document 01 gives them.
+// The class of a byte.
+// Kept: numbers. Document 01 gives the classes by them, in a table of 256 entries, which it asks for; an enum's values in it would be no plainer.
 pub fn class_of(b: u8) -> u8
     ensures { result ≡ class_of b }
 {
@@ -26,5 +27,5 @@ pub fn class_of(b: u8) -> u8
 pub fn in_words(class: u8) -> bool
     ensures { result ≡ within 2 4 class }
 {
-    2 <= class && class <= 4
+    matches!(class, 2..=4)
 }

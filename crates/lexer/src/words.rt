@@ -68,45 +68,27 @@ fn digit_kind(w: &[u8]) -> WordKind
     }
 }
 
-// The kind of a word. Reserved words are compared with constant bytes.
-// Kept: one test after another. A match on these byte strings compiles to a tree of tests of single bytes, whose last arm is reached in some thirty
-// ways, each with a proof of its own; these tests need none.
-#[tactic(auto, using(crate::proofs::SameLaws::pointwise_same), unfolding(crate::specs::Words::kind_of, crate::specs::Words::kind_number))]
+// The reserved words and their kinds.
+static RESERVED: [(&[u8], WordKind); 10] = [
+    (b"role", WordKind::Role),
+    (b"under", WordKind::Under),
+    (b"rule", WordKind::Rule),
+    (b"any", WordKind::Any),
+    (b"not", WordKind::Not),
+    (b"or", WordKind::Or),
+    (b"pass", WordKind::Pass),
+    (b"hold", WordKind::Hold),
+    (b"send", WordKind::Send),
+    (b"anew", WordKind::Anew),
+];
+
+// The kind of a word: a reserved word's stands in the table.
 pub fn word_kind(w: &[u8]) -> WordKind
     ensures { kind_number result ≡ kind_of w.now }
 {
-    if w == b"role".as_slice() {
-        return WordKind::Role;
+    match RESERVED.iter().find(|(word, _)| *word == w) {
+        Some((_, kind)) => *kind,
+        None if name_like(w) => WordKind::Name,
+        None => digit_kind(w),
     }
-    if w == b"under".as_slice() {
-        return WordKind::Under;
-    }
-    if w == b"rule".as_slice() {
-        return WordKind::Rule;
-    }
-    if w == b"any".as_slice() {
-        return WordKind::Any;
-    }
-    if w == b"not".as_slice() {
-        return WordKind::Not;
-    }
-    if w == b"or".as_slice() {
-        return WordKind::Or;
-    }
-    if w == b"pass".as_slice() {
-        return WordKind::Pass;
-    }
-    if w == b"hold".as_slice() {
-        return WordKind::Hold;
-    }
-    if w == b"send".as_slice() {
-        return WordKind::Send;
-    }
-    if w == b"anew".as_slice() {
-        return WordKind::Anew;
-    }
-    if name_like(w) {
-        return WordKind::Name;
-    }
-    digit_kind(w)
 }
