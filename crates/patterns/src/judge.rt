@@ -123,6 +123,7 @@ impl Matcher<'_> {
     }
 
     // A condition by its nesting: one function judges a whole condition, or one term of it, by recursion. What falls is the code left, and then whole.
+    // Kept: one function with a flag. Document 01 asks for one function.
     fn judge(&self, at: usize, whole: bool) -> Judged
         ensures { JudgeRead self.now.parents.now self.now.event.now self.now.code.now at whole result }
     {
