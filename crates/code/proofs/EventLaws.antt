@@ -1,10 +1,9 @@
--- The loop of `event_line`: the names read so far, and what is left.
+-- The loop of `read`: the names read so far, and what is left.
 -- Assumes nothing.
-use Rattle.std.proofs.Common.{Some, None, Bor, Ok, Err, ◌≡◌, refl, ap, sym, ◌∙◌, Bool, true, false, ◌||◌, List, [], ◌∷◌, ◌++◌, append_assoc, append-nil, map, ℕ, zero, suc, ◌+◌, ◌-◌, ◌<◌, ◌≤◌, arith, eqb, length, set, replicate, length-append}
+use Rattle.std.proofs.Common.{Some, None, Bor, ◌≡◌, refl, ap, sym, ◌∙◌, Bool, true, false, ◌||◌, List, [], ◌∷◌, ◌++◌, append_assoc, append-nil, map, ℕ, zero, suc, ◌+◌, ◌-◌, ◌<◌, ◌≤◌, arith, eqb, length, set, replicate, length-append}
 use Rattle.std.proofs.Math.Bool.{or-false}
 use Rattle.std.proofs.lemmas.List.{map-append, length-map}
 use Rattle.common.specs.Limits.{event_size}
-use Rattle.common.specs.declared.refusals.Refusal.TheVariants.{NotInLanguage, NotDeclared}
 use Rattle.lexer.specs.Words.{kind_number}
 use Rattle.lexer.specs.Tokens.{Token, word, mark, other, tokens}
 use Rattle.lexer.specs.declared.words.WordKind.{WordKind}
@@ -18,7 +17,7 @@ use Rattle.grammar.specs.Valid.{IsName, ValidLine, ValidNames}
 use Rattle.grammar.specs.Lines.{Says, happens}
 use Rattle.grammar.proofs.Language.{event-taken, event-refused}
 use Rattle.code.specs.Code.{id_of, no_id, unheld_id, lacks}
-use Rattle.code.specs.Events.{no_event, event_told, event_said, event_line_of, event_answer}
+use Rattle.code.specs.Events.{no_event, event_told, event_said, event_line_of, read_answer}
 use Rattle.code.proofs.FrontLaws.{Begins}
 use Rattle.code.proofs.Lacks.{lacks-append}
 use Rattle.code.proofs.Filling.{filled_more}
@@ -89,9 +88,9 @@ module _ (ns s : List ℕ) where
     lacking = refl;
   }
 
-  -- a text that is not in the language is answered by refusal 4
-  answered_none : no_event ≡ event_line_of ns s → Err NotInLanguage ≡ event_answer (event_line_of ns s)
-  answered_none e = ap event_answer e
+  -- a text that is not in the language is no event
+  answered_none : no_event ≡ event_line_of ns s → None ≡ read_answer (event_line_of ns s)
+  answered_none e = ap read_answer e
 
   module _ (roles : List ℕ) (len : ℕ) (left : List ℕ) (unknown : Bool) (g : Going ns s roles len left unknown) where
     pub going_more : (w : Bor (List ℕ)) (after : Bor (List ℕ)) (i : ℕ) (lacking : Bool) → Begins left (Some (Word kinds.Name w, after)) → i ≡ id_of ns w.now → len < event_size
@@ -128,11 +127,8 @@ module _ (ns s : List ℕ) where
         let says : Says s (event g.words) = record { valid = g.names; spelled = g.seen ∙ ap (λ (ts : List Token). map word g.words ++ ts) h ∙ append-nil (map word g.words) } in
         rw ((event-taken s (event g.words)).1 (says, refl), g.count, g.ids, g.lacking) refl
 
-    pub going_lacks : Begins left None → unknown ≡ true → Err NotDeclared ≡ event_answer (event_line_of ns s)
-    going_lacks h e = rw e at (ap event_answer (told h))
-
-    pub going_end : Begins left None → unknown ≡ false → Ok (record { len = len; roles = roles }) ≡ event_answer (event_line_of ns s)
-    going_end h e = rw e at (ap event_answer (told h))
+    pub going_end : Begins left None → Some (record { len = len; roles = roles }, unknown) ≡ read_answer (event_line_of ns s)
+    going_end h = ap read_answer (told h)
 
     -- a token that is left is a name with room for it, where the text says an event
     left_over : (t : Token) (ts : List Token) → tokens left ≡ t ∷ ts → (vs : List (List ℕ)) → Says s (event vs) → (NoName t → ⊥) × (length g.words < event_size)
@@ -141,16 +137,16 @@ module _ (ns s : List ℕ) where
 
     -- a token that is no word
     pub going_mark : (l : Lexeme) (after : Bor (List ℕ)) → Begins left (Some (l, after)) → ((k : WordKind) (w : Bor (List ℕ)) → l ≡ Word k w → ⊥)
-        → Err NotInLanguage ≡ event_answer (event_line_of ns s)
+        → None ≡ read_answer (event_line_of ns s)
     going_mark (Word k w) after h z = absurd (z k w refl)
     going_mark (Mark b) after h z = answered_none (told_none ns s (λ vs says. (left_over _ _ h.1 vs says).0 tt))
     going_mark (Other b) after h z = answered_none (told_none ns s (λ vs says. (left_over _ _ h.1 vs says).0 tt))
 
     -- a word that is no name
-    pub going_word : (k : WordKind) (w after : Bor (List ℕ)) → Begins left (Some (Word k w, after)) → (k ≡ kinds.Name → ⊥) → Err NotInLanguage ≡ event_answer (event_line_of ns s)
+    pub going_word : (k : WordKind) (w after : Bor (List ℕ)) → Begins left (Some (Word k w, after)) → (k ≡ kinds.Name → ⊥) → None ≡ read_answer (event_line_of ns s)
     unfolding kind_number
     going_word k w after h z = answered_none (told_none ns s (λ vs says. (left_over _ _ h.1 vs says).0 (λ n. z (kind_number_same k kinds.Name (h.2 ∙ n)))))
 
     -- a fifth name
-    pub going_full : (w after : Bor (List ℕ)) → Begins left (Some (Word kinds.Name w, after)) → event_size ≤ len → Err NotInLanguage ≡ event_answer (event_line_of ns s)
+    pub going_full : (w after : Bor (List ℕ)) → Begins left (Some (Word kinds.Name w, after)) → event_size ≤ len → None ≡ read_answer (event_line_of ns s)
     going_full w after h full = answered_none (told_none ns s (λ vs says. omega (arith, (left_over _ _ h.1 vs says).1, g.count)))

@@ -1,6 +1,7 @@
 -- What reading an event's text tells, with ids for the names held.
 -- Assumes nothing.
-use Rattle.std.specs.Prelude.{Bool, true, false, cond, List, [], ◌∷◌, ◌++◌, map, ℕ, ◌-◌, leb, length, take, replicate, Result, Ok, Err}
+use Rattle.std.specs.Prelude.{Bool, true, false, cond, List, [], ◌∷◌, ◌++◌, map, ℕ, ◌-◌, leb, length, take, replicate, Result, Ok, Err, Some, None}
+use Rattle.std.specs.Prelude as Maybe
 use Rattle.std.proofs.Math.Option.{Option, none, some}
 use Rattle.common.specs.Limits.{event_size}
 use Rattle.common.specs.declared.refusals.Refusal.{Refusal}
@@ -43,3 +44,10 @@ event_line_of ns s = event_said ns (read_event s)
 -- what is told, as the code answers it: refusal 4, refusal 6, or the event
 abbrev pub event_answer : EventLine → Result Event Refusal
 event_answer l = cond l.fits (cond l.unknown (Err NotDeclared) (Ok (record { len = l.len; roles = l.roles }))) (Err NotInLanguage)
+
+-- the same with the ids: the event and whether one of its names has no id, or the event alone; None where the text is not in the language
+abbrev pub read_answer : EventLine → Maybe.Option (Event × Bool)
+read_answer l = cond l.fits (Some (record { len = l.len; roles = l.roles }, l.unknown)) None
+
+abbrev pub ids_answer : EventLine → Maybe.Option Event
+ids_answer l = cond l.fits (Some (record { len = l.len; roles = l.roles })) None

@@ -12,5 +12,5 @@ mod lines;
 
 pub use count::patterns;
 pub use encode::Encoded;
-pub use events::{Event, event_line};
+pub use events::{Event, event_ids, event_line};
 pub use lines::{RoleLine, RuleLine, role_line, rule_line};

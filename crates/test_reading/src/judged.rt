@@ -1,6 +1,6 @@
 // A record through the readers, in the order of the refusals.
-use crate::shown::{code_shown, name_shown, roles_shown, words_shown};
-use code::{Encoded, event_line, patterns, role_line, rule_line};
+use crate::shown::{code_shown, name_shown, roles_shown};
+use code::{Encoded, event_ids, event_line, patterns, role_line, rule_line};
 use common::Refusal;
 use frame::{RecordKind, framed, text};
 use grammar::{LineKind, line_kind};
@@ -76,18 +76,16 @@ fn line(rt: &impl Print, text: &[u8], held: &[u64]) -> io::Result<()> {
     }
 }
 
-// An event's text: whether its roles are held, and their ids. The ids of a text that is refused with 6 are those of its words.
+// An event's text: whether its roles are held, and their ids.
 fn event(rt: &impl Print, text: &[u8], held: &[u64]) -> io::Result<()> {
     match event_line(text, held) {
-        Ok(event) => {
-            rt.write_all(b"event, roles held, ids")?;
-            roles_shown(rt, event.roles(), held)
-        }
-        Err(Refusal::NotDeclared) => {
-            rt.write_all(b"event, role not held, refused 6, ids")?;
-            words_shown(rt, text, held)
-        }
-        Err(refusal) => refused(rt, refusal),
+        Ok(_) => rt.write_all(b"event, roles held, ids")?,
+        Err(Refusal::NotDeclared) => rt.write_all(b"event, role not held, refused 6, ids")?,
+        Err(refusal) => return refused(rt, refusal),
+    }
+    match event_ids(text, held) {
+        Some(event) => roles_shown(rt, event.roles(), held),
+        None => Ok(()),
     }
 }
 

@@ -1,5 +1,4 @@
 // What is printed: bytes, names, code and ids.
-use code::event_line;
 use common::sizes::NAME_SIZE;
 use std::io;
 
@@ -54,21 +53,6 @@ fn id_shown(rt: &impl Print, id: u8, held: &[u64]) -> io::Result<()> {
 pub fn roles_shown(rt: &impl Print, roles: &[u8], held: &[u64]) -> io::Result<()> {
     for id in roles {
         id_shown(rt, *id, held)?;
-    }
-    Ok(())
-}
-
-// The id of a word: that of an event of this word alone, and 127 where its name is not held.
-fn id_of(word: &[u8], held: &[u64]) -> u8 {
-    event_line(word, held).map_or(127, |event| event.roles[0])
-}
-
-// The ids of the words of a text, each with its name. Spaces stand between words, one or more.
-pub fn words_shown(rt: &impl Print, text: &[u8], held: &[u64]) -> io::Result<()> {
-    for word in text.split(|b| *b == b' ') {
-        if !word.is_empty() {
-            id_shown(rt, id_of(word, held), held)?;
-        }
     }
     Ok(())
 }

@@ -1,10 +1,10 @@
--- `event_line` meets its contract: the names read so far and what is left make the whole; what is left falls.
+-- `read` meets its contract: the names read so far and what is left make the whole; what is left falls.
 -- Assumes nothing.
 use Rattle.std.proofs.Common.{refl, ◌≡◌, rules}
 use Rattle.lexer.specs.declared.words.WordKind.TheVariants as kinds
 use Rattle.code.proofs.FrontLaws.{first-begins}
-use Rattle.code.proofs.EventLaws.{going_start, going_more, going_end, going_lacks, going_mark, going_word, going_full}
-use Rattle.code.proofs.events.event_line.Goals as goal
+use Rattle.code.proofs.EventLaws.{going_start, going_more, going_end, going_mark, going_word, going_full}
+use Rattle.code.proofs.events.read.Goals as goal
 
 pub loop-lexeme-init : goal.loop-lexeme-init
 loop-lexeme-init c = going_start _ _ _ refl
@@ -30,8 +30,5 @@ loop-lexeme-preserved c =
     let name : c.in-Word.kind ≡ kinds.Name = search rules in
     going_more _ _ _ _ _ _ c.loop-lexeme.invariant c.in-Word.word c.in-Some.after _ _ (first-begins (rw (c.in-Some.is, c.in-Word.is, name) at c.next.ensures)) c.id_of-id.ensures c.if-len-ge-EVENT_SIZE.false refl
 
-pub returns-then-unknown : goal.returns-then-unknown
-returns-then-unknown c = going_lacks _ _ _ _ _ _ c.loop-lexeme.invariant (first-begins (rw c.in_default.is at c.next.ensures)) c.if-unknown.true
-
 pub returns : goal.returns
-returns c = going_end _ _ _ _ _ _ c.loop-lexeme.invariant (first-begins (rw c.in_default.is at c.next.ensures)) c.if-unknown.false
+returns c = going_end _ _ _ _ _ _ c.loop-lexeme.invariant (first-begins (rw c.in_default.is at c.next.ensures))
