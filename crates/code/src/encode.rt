@@ -1,4 +1,7 @@
 // Tokens to code, in one flat pass.
+//
+// Kept: bytes for kinds, here and where code is read (`patterns`, `follow`, `chain`, `render`). A rule lies in fixed memory, a byte a token, and a match on
+// bytes reads it where it lies.
 ghost use Rattle.std.specs.Prelude.{◌≡◌};
 ghost use Rattle.lexer.specs.Words.{kind_number};
 ghost use Rattle.lexer.specs.Tokens.{tokens};
@@ -74,6 +77,7 @@ pub fn encode(text: &[u8], names: &[u64]) -> Encoded
     let mut len = 0;
     let mut unknown = false;
     let mut left = text;
+    // Kept: a loop over what is left, here and in `events`. The proof speaks of what is left, which an iterator would hide.
     while let Some((byte, unheld, after)) = front(left, names) {
         if CODE_SIZE <= len {
             break;

@@ -14,7 +14,7 @@ pub enum ReplyKind {
 }
 
 impl ReplyKind {
-    // Column 0 of a reply.
+    // Column 0 of a reply. Kept: a method, which says what the byte is; `u8::from` would not.
     pub fn letter(self) -> u8
         ensures { result ≡ letter_of self }
     {

@@ -21,7 +21,7 @@ pub enum Refusal {
 }
 
 impl Refusal {
-    // The number by which hosts and replies know it.
+    // The number by which hosts and replies know it. Kept: a method, which says what the number is; `u8::from` would not.
     pub fn number(self) -> u8
         ensures { result ≡ refusal_number self }
     {

@@ -1,4 +1,7 @@
 // Lines as records: byte 0, the text, spaces and the newline.
+//
+// Kept: a blank record, its text and the newline, written out here twice and once in `snapshot`. A function that takes the text's writer as a closure would
+// promise its bytes through the closure's promise, which is no plainer.
 ghost use Rattle.std.specs.Prelude.{◌≡◌};
 ghost use Rattle.names.specs.Unpacked.{unpacked};
 ghost use Rattle.grammar.specs.AsRead.{role};

@@ -5,7 +5,7 @@ ghost use Rattle.reply.specs.Writing.{reply_of, Written};
 use columns::{ReplyKind, blank, front, put, words};
 use common::sizes::REPLY_SIZE;
 
-// Writes a reply where 50 bytes are lent for it, and says whether they are. The newline ends a text that is too long for its columns.
+// Writes a reply where 50 bytes are lent for it, and says whether they are, for any buffer. The newline ends a text that is too long for its columns.
 // Kept: five parameters, the buffer and the reply's columns in their order, the first of which `front` takes too. A struct of the columns would be made for
 // each call and taken apart in the next line.
 pub fn reply(out: &mut [u8], kind: ReplyKind, number: u8, name: u64, roles: &[u64]) -> bool

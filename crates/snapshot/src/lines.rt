@@ -21,7 +21,7 @@ fn in_order(state: &mut State, text: &[u8]) -> Result<(), Refusal>
     }
 }
 
-// One record of an image that is to be a line.
+// One record of an image that is to be a line. Its refusal goes on by `?`, whichever it is; `restore` tells each as 12.
 fn take_line(state: &mut State, bytes: &[u8]) -> Result<(), Refusal>
     ensures { LineTaken state.old bytes.now result state.new }
 {
@@ -38,6 +38,7 @@ pub fn take_lines(image: &[u8]) -> Result<(State, &[u8]), Refusal>
 {
     let mut state = State::new();
     let mut rest = image;
+    // Kept: a loop over what is left, since what is left after the lines is handed back.
     while let Some((record, after)) = rest.split_at_checked(RECORD_SIZE) {
         if record[0] != b'L' {
             return Ok((state, rest));

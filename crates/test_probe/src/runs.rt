@@ -23,6 +23,7 @@ pub fn marked(state: &mut State, events: &[u8], out: &mut [u8]) {
 // The list of events, committed in order.
 fn committed_once(state: &mut State, events: &[u8]) {
     let mut left = events;
+    // Kept: a loop over what is left, as the list ends where no event can be split off.
     while let Some((event, rest)) = next(left) {
         state.commit(event);
         left = rest;
