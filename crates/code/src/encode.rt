@@ -33,7 +33,7 @@ impl Encoded {
     }
 }
 
-// The byte of a word that is no name, by its kind: a keyword's letter, or the digit.
+// The byte of a word that is no name, by its kind: a keyword's letter, or the digit. Kept: a function, as it is the definition's table.
 #[tactic(auto, unfolding(crate::specs::Code::byte_of_kind, lexer::specs::Words::kind_number))]
 fn letter(kind: WordKind) -> u8
     ensures { result ≡ byte_of_kind (kind_number kind) }
@@ -77,7 +77,8 @@ pub fn encode(text: &[u8], names: &[u64]) -> Encoded
     let mut len = 0;
     let mut unknown = false;
     let mut left = text;
-    // Kept: a loop over what is left, here and in `events`. The proof speaks of what is left, which an iterator would hide.
+    // Kept: a loop over what is left, here and in `events`. An iterator of tokens would hold the same slice, and the invariant, which speaks of what is left,
+    // would have to take it out again.
     while let Some((byte, unheld, after)) = front(left, names) {
         if CODE_SIZE <= len {
             break;

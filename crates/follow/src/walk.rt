@@ -13,7 +13,7 @@ pub struct Walk {
 }
 
 // What a pass reads: the past's code with the event and the parents of roles, and the positions held before the event.
-// Kept: places in the code are numbers. Where the past ends is kept with its rule, as one byte of its row, and so is told as a number.
+// Kept: places in the code are numbers. Where the trigger stands, one after the past's end, is kept as a byte of the rule's row.
 #[derive(Clone, Copy)]
 pub struct Step<'a> {
     pub matcher: Matcher<'a>,

@@ -33,7 +33,7 @@ pub fn read_full<R: Read>(file: &mut R, bytes: &mut [u8]) -> io::Result<usize>
     ensures end { IfOk result (λ n. n < length bytes.new → IsAtEnd (R.remaining file.new)) }
 {
     let mut done = 0;
-    // Kept: a loop over reads. How many bytes come is each read's own.
+    // Kept: a loop over reads. `read_exact` does not tell how many bytes came before the end.
     while done < bytes.len() {
         let n = one_read(file, &mut bytes[done..])?;
         if n == 0 {

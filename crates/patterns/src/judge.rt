@@ -64,8 +64,8 @@ fn after(i: usize, n: usize) -> usize
     if i < n { i + 1 } else { i }
 }
 
-// What a pattern is judged by: the code that spells it, the event, and the parents of roles. The slices may have any lengths and hold anything. Places in the
-// code are numbers: where a spelling ends is kept with a rule, and so is told as a number.
+// What a pattern is judged by: the code that spells it, the event, and the parents of roles. The slices may have any lengths and hold anything.
+// Kept: places in the code are numbers, since `follow` keeps one in a rule's row, and `chain` goes on from another, where the trigger ends.
 #[derive(Clone, Copy)]
 pub struct Matcher<'a> {
     pub code: &'a [u8],

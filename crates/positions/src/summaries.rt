@@ -6,6 +6,7 @@ use crate::sets::{has, only_if, single};
 
 // What the pass finds of a part of a past: the number of the pattern after it; whether it allows the empty list; whether a position held may
 // end it; the patterns that may begin it and that the event meets; those that the event leads to from a position held; those that may end it.
+// Kept: two flags. Each counts whether or not the other is set.
 #[derive(Clone, Copy, Debug, PartialEq, Eq)]
 pub struct Summary {
     pub next: usize,

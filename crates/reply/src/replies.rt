@@ -6,8 +6,8 @@ use columns::{ReplyKind, blank, front, put, words};
 use common::sizes::REPLY_SIZE;
 
 // Writes a reply where 50 bytes are lent for it, and says whether they are, for any buffer. The newline ends a text that is too long for its columns.
-// Kept: five parameters, the buffer and the reply's columns in their order, the first of which `front` takes too. A struct of the columns would be made for
-// each call and taken apart in the next line.
+// Kept: five parameters, the buffer and the reply's columns in their order, the first three of which `front` takes too. A struct of the columns would
+// be made for each call and taken apart in the next line.
 pub fn reply(out: &mut [u8], kind: ReplyKind, number: u8, name: u64, roles: &[u64]) -> bool
     ensures { Written out.old (reply_of kind number name roles.now) out.new result }
 {

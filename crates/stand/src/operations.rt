@@ -58,7 +58,7 @@ pub fn operation_at(kinds: &[u8], k: usize) -> Operation
 }
 
 // A count in its place, where there is one.
-// Kept: after a write through a slice's `get_mut` a proof knows how long the slice is, and none of its elements.
+// Kept: a test and an index. After a write through a slice's `get_mut` a proof knows how long the slice is, and none of its elements.
 pub fn put_count(counts: &mut [u32], k: usize, n: u32)
     ensures { counts.new ≡ set counts.old k n }
 {

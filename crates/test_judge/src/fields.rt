@@ -3,7 +3,7 @@ use input::read_full;
 use std::io;
 use std::io::Read;
 
-// The number that digits say, or the greatest where it is above that.
+// The number that digits say, or the greatest where it is above that. Kept: by hand, as the digits are bytes and any bytes say a number.
 pub fn decimal(digits: &[u8]) -> usize {
     digits.iter().fold(0, |n: usize, digit| {
         n.saturating_mul(10)

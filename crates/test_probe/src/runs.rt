@@ -32,6 +32,7 @@ fn committed_once(state: &mut State, events: &[u8]) {
 
 // The list of events, committed `rounds` times over.
 pub fn committed(state: &mut State, events: &[u8], rounds: u32) {
+    // Kept: a loop that does one thing so many times.
     for _ in 0..rounds {
         committed_once(state, events);
     }

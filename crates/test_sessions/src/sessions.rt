@@ -5,7 +5,7 @@ use std::io;
 use std::rt::Files;
 
 // How many sessions came out as stored, and how many did not.
-// Kept: test_judge has the same struct. Every crate below both is the product's, and a crate for these lines would be no plainer.
+// Kept: test_judge has the same struct. No crate of tests stands below both, and one for these lines would be no plainer.
 #[derive(Clone, Copy, Debug, PartialEq, Eq)]
 pub struct Tally {
     pub good: u64,
