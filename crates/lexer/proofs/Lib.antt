@@ -1,5 +1,3 @@
-pub mod Table
-pub mod ClassTable
 pub mod ClassedLaws
 pub mod RunLaws
 pub mod SameLaws
