@@ -2,11 +2,11 @@
 ghost use Rattle.std.specs.Prelude.{◌≡◌};
 ghost use Rattle.lexer.specs.Class.{all_classed};
 
-use crate::classes::class_of;
+use crate::classes::has_class;
 
 // Whether no byte of a text is of class 0.
 pub fn all_classed(text: &[u8]) -> bool
     ensures { result ≡ all_classed text.now }
 {
-    text.iter().all(|b| class_of(*b) != 0)
+    text.iter().all(|b| has_class(*b))
 }

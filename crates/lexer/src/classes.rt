@@ -1,26 +1,47 @@
 // The class of a byte, by ranges and the few marks. Document 01, "A record"; document 02, C-14.
-ghost use Rattle.std.specs.Prelude.{◌≡◌};
-ghost use Rattle.lexer.specs.Class.{class_of, within};
+ghost use Rattle.std.specs.Prelude.{◌≡◌, not, eqb};
+ghost use Rattle.lexer.specs.Class.{class_of, within, among, marks};
+
+// Whether a byte is one of `: ; ( ) [ ] < > + * #`.
+fn is_mark(b: u8) -> bool
+    ensures { result ≡ among b marks }
+{
+    matches!(
+        b,
+        b':' | b';' | b'(' | b')' | b'[' | b']' | b'<' | b'>' | b'+' | b'*' | b'#'
+    )
+}
 
 // The class of a byte: "1 for space; 2 for `a` to `z`; 3 for `0` to `9`; 4 for hyphen; 5 for `: ; ( ) [ ] < > + * #`; 6 for the other bytes from 33 to 126;
-// 0 for the rest". Most bytes of a record are spaces and letters, so these come first. The rarer bytes stand in a match of their own: of one match over all,
-// the compiler makes a jump table.
+// 0 for the rest". The bytes that are common come first. Of one match over all, the compiler makes tests in the order of the bytes, or a jump table.
 // Kept: numbers. Document 01 gives the classes by them; an enum's values would be no plainer.
 #[tactic(auto, unfolding(crate::specs::Class::class_of))]
 pub fn class_of(b: u8) -> u8
     ensures { result ≡ class_of b }
 {
-    match b {
-        b' ' => 1,
-        b'a'..=b'z' => 2,
-        b'!'..=b'~' => match b {
-            b'0'..=b'9' => 3,
-            b'-' => 4,
-            b':' | b';' | b'(' | b')' | b'[' | b']' | b'<' | b'>' | b'+' | b'*' | b'#' => 5,
-            _ => 6,
-        },
-        _ => 0,
+    if matches!(b, b'a'..=b'z') {
+        2
+    } else if b == b' ' {
+        1
+    } else if is_mark(b) {
+        5
+    } else if matches!(b, b'0'..=b'9') {
+        3
+    } else if b == b'-' {
+        4
+    } else if matches!(b, b'!'..=b'~') {
+        6
+    } else {
+        0
     }
+}
+
+// Whether a byte has a class, which is the space and all that can be seen: one test, as every byte of every record is asked this.
+#[tactic(auto, unfolding(crate::specs::Class::class_of))]
+pub fn has_class(b: u8) -> bool
+    ensures { result ≡ not (eqb (class_of b) 0) }
+{
+    matches!(b, b' '..=b'~')
 }
 
 // Whether the bytes of a class stand in words: 2, 3 and 4.
