@@ -13,7 +13,8 @@ fn is_mark(b: u8) -> bool
 }
 
 // The class of a byte: "1 for space; 2 for `a` to `z`; 3 for `0` to `9`; 4 for hyphen; 5 for `: ; ( ) [ ] < > + * #`; 6 for the other bytes from 33 to 126;
-// 0 for the rest". The bytes that are common come first. Of one match over all, the compiler makes tests in the order of the bytes, or a jump table.
+// 0 for the rest". The bytes that are common come first. These are tests in a row, as of a match the compiler makes tests in the order of the bytes,
+// or a jump table (docs/notes/C-14.md).
 // Kept: numbers. Document 01 gives the classes by them; an enum's values would be no plainer.
 #[tactic(auto, unfolding(crate::specs::Class::class_of))]
 pub fn class_of(b: u8) -> u8
@@ -36,7 +37,7 @@ pub fn class_of(b: u8) -> u8
     }
 }
 
-// Whether a byte has a class, which is the space and all that can be seen: one test, as every byte of every record is asked this.
+// Whether a byte is of a class other than 0, which are the bytes from 32 to 126. One test, as the bytes of every text are asked this.
 #[tactic(auto, unfolding(crate::specs::Class::class_of))]
 pub fn has_class(b: u8) -> bool
     ensures { result ≡ not (eqb (class_of b) 0) }
