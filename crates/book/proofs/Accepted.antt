@@ -13,14 +13,14 @@ use Rattle.intake.specs.Machine.{with_role, with_rule, asked_of}
 use Rattle.book.specs.Names.{Name, Roles, Rule, Duty}
 use Rattle.book.specs.Decide.{Call, granted, decide, answer}
 use Rattle.book.specs.MachineSteps.{PositionRule, PositionMachine, fresh_machine, machine_duty, machine_decides, machine_next, machine_step, with_positions, machine_of}
-use Rattle.book.specs.Images.{in_order, digits}
+use Rattle.book.specs.Images.{in_order}
 use Rattle.book.specs.Restoring.{line_records, other_records, take_asked, take_line, take_lines, rule_marks, with_marks, read_marks, marks_read, restored_from, restored}
 use Rattle.book.specs.Accepted.{rules_of}
 use Rattle.book.specs.SessionBook.{given_entry, book_from}
 use Rattle.book.proofs.Decided.{RuleFits}
 use Rattle.book.proofs.Agree.{Sound}
 use Rattle.book.proofs.ImageLists.{then_some}
-use Rattle.book.proofs.MarkRecords.{mark-said}
+use Rattle.book.proofs.MarkRecords.{said-within, record-said}
 use Rattle.book.proofs.Lasting.{Ruled, Within, Lasting, duties_named, ruled_fits, fresh_lasting, step_lasting}
 
 -- LINES
@@ -90,7 +90,7 @@ with_remarked x xs ys s (some m) none h k e = absurd (none-ne-some ys e)
 with_remarked x xs ys s (some m) (some zs) h k e =
     let q = k zs refl in
     subst (Remarked (x ∷ xs)) (some-injective (record { rule = x.rule; positions = m } ∷ zs) ys e)
-    (record { rules = ap (λ (l : List Rule). x.rule ∷ l) q.rules; within = ((mark-said digits x.rule.name (size_past x.rule.past) s m h).within, q.within) })
+    (record { rules = ap (λ (l : List Rule). x.rule ∷ l) q.rules; within = (said-within (record-said x.rule.name (size_past x.rule.past) s m h), q.within) })
 
 -- what is read is so
 pub marks_remarked : (xs : List PositionRule) (ss : List (List ℕ)) (ys : List PositionRule) → read_marks xs ss ≡ some ys → Remarked xs ys

@@ -1,6 +1,6 @@
 -- `restored` accepts exactly the images of specs/Accepted.antt: refusal 12 the other way round.
 -- Assumes nothing.
-use Rattle.std.proofs.Common.{◌≡◌, refl, sym, ap, ap₂, ◌∙◌, subst, Bool, true, false, cond, List, [], ◌∷◌, ◌++◌, map, ◌↔◌, ℕ, ◌/◌, ◌%◌, ◌<◌, arith, eqb, length, eqb-true}
+use Rattle.std.proofs.Common.{◌≡◌, refl, sym, ap, ◌∙◌, subst, Bool, true, false, cond, List, [], ◌∷◌, ◌++◌, map, ◌↔◌, ℕ, ◌/◌, ◌%◌, ◌<◌, arith, eqb, length, eqb-true}
 use Rattle.std.proofs.Math.Option.{Option, none, some, none-ne-some, some-injective}
 use Rattle.common.specs.All.{All}
 use Rattle.common.specs.Limits.{record_size}
@@ -11,11 +11,12 @@ use Rattle.intake.specs.Machine.{asked_of}
 use Rattle.book.specs.Decide.{Decision, answer}
 use Rattle.book.specs.MachineSteps.{PositionRule, PositionMachine, fresh_machine, machine_duty, machine_step}
 use Rattle.book.specs.Session.{answers, left}
-use Rattle.book.specs.Images.{in_order, joined, digits, marks_record}
+use Rattle.book.specs.Images.{in_order, joined}
 use Rattle.book.specs.Restoring.{line_records, other_records, take_lines, rule_marks, with_marks, read_marks, marks_read, restored_from, restored}
-use Rattle.book.specs.Accepted.{calls_of, left_by, rules_of, Accepted}
-use Rattle.book.proofs.ImageLists.{order_twice, order_map, cut_joined, split_lines, lines_lined, then_some}
-use Rattle.book.proofs.MarkRecords.{mark-said}
+use Rattle.book.specs.Accepted.{calls_of, left_by, rules_of, AllGive, give_none, give_more, Accepted}
+use Rattle.book.proofs.ImageLists.{order_twice, cut_joined, split_lines, lines_lined, then_some}
+use Rattle.book.proofs.MarkRecords.{record-said}
+use Rattle.book.proofs.GivenRecords.{said_given, gives_in_order}
 use Rattle.book.proofs.Accepted.{handed, handed_decides, Took, took_role, took_rule, took_zero, line_step, first_taken, marks_remarked}
 use Rattle.book.proofs.AcceptedTaken.{Zero, Lined, accepted-restored}
 
@@ -67,20 +68,21 @@ split (r ∷ ls) t u e = let f = first_taken t r ls u e in go (asked_of t r) f.n
 
 -- THE RECORDS OF MARKS
 
--- those that are read are those that keeping writes
-marks_are : (ys : List PositionRule) (ss : List (List ℕ)) (xs : List PositionRule) → read_marks ys ss ≡ some xs → ss ≡ map marks_record xs
-marks_are [] [] xs e = ap (map marks_record) (some-injective [] xs e)
+-- those that are read give the marks
+marks_are : (ys : List PositionRule) (ss : List (List ℕ)) (xs : List PositionRule) → read_marks ys ss ≡ some xs → AllGive xs ss
+marks_are [] [] xs e = subst (λ (l : List PositionRule). AllGive l []) (some-injective [] xs e) give_none
 marks_are [] (s ∷ ss) xs e = absurd (none-ne-some xs e)
 marks_are (y ∷ ys) [] xs e = absurd (none-ne-some xs e)
 marks_are (y ∷ ys) (s ∷ ss) xs e = go (rule_marks y.rule s) (read_marks ys ss) refl (λ zs h. marks_are ys ss zs h) e
   where
     go : (o : Option ℕ) (z : Option (List PositionRule)) → rule_marks y.rule s ≡ o
-        → ((zs : List PositionRule) → z ≡ some zs → ss ≡ map marks_record zs) → with_marks y.rule o z ≡ some xs → s ∷ ss ≡ map marks_record xs
+        → ((zs : List PositionRule) → z ≡ some zs → AllGive zs ss) → with_marks y.rule o z ≡ some xs → AllGive xs (s ∷ ss)
     go none z h k e = absurd (none-ne-some xs e)
     go (some m) none h k e = absurd (none-ne-some xs e)
     go (some m) (some zs) h k e =
-        ap₂ (λ (a : List ℕ) (b : List (List ℕ)). a ∷ b) (mark-said digits y.rule.name (size_past y.rule.past) s m h).bytes (k zs refl)
-        ∙ ap (map marks_record) (some-injective (record { rule = y.rule; positions = m } ∷ zs) xs e)
+        let x : PositionRule = record { rule = y.rule; positions = m } in
+        subst (λ (l : List PositionRule). AllGive l (s ∷ ss)) (some-injective (x ∷ zs) xs e)
+        (give_more (said_given x s (record-said y.rule.name (size_past y.rule.past) s m h)) (k zs refl))
 
 -- THE IMAGE
 
@@ -106,17 +108,18 @@ module _ (s : List ℕ) where
       let r = marks_remarked u.rules (in_order os) xs f in
       let c : k.us ++ k.vs ≡ ls = sym k.cut in
       let l : left_by (k.us ++ k.vs) ≡ u = ap left_by c ∙ n.1 in
-      let m : os ≡ map marks_record (in_order xs) = sym (order_twice os) ∙ ap in_order (marks_are u.rules (in_order os) xs f) ∙ sym (order_map marks_record xs) in
       record {
         role_records = k.us;
         rule_records = k.vs;
-        bytes = sym (cut_joined (length s / record_size) s (omega (arith, z))) ∙ ap joined (split_lines rs ∙ ap₂ (λ (x y : List (List ℕ)). x ++ y) (sym c) m);
+        mark_records = os;
+        bytes = sym (cut_joined (length s / record_size) s (omega (arith, z))) ∙ ap joined (split_lines rs ∙ ap (λ (x : List (List ℕ)). x ++ os) (sym c));
         lines = subst (All Lined) (sym c) (lines_lined rs);
         taken = subst (λ (x : List (List ℕ)). All Zero (answers machine_step fresh_machine (calls_of x))) (sym c) n.0;
         no-rule = k.no-rule;
         no-role = ap (λ (x : PositionMachine). x.roles) l ∙ k.no-role;
         roles = ap (λ (x : PositionMachine). x.roles) l;
         rules = ap (λ (x : PositionMachine). rules_of x.rules) l ∙ sym r.rules;
+        marks = subst (λ (l : List (List ℕ)). AllGive (in_order xs) l) (order_twice os) (gives_in_order (marks_are u.rules (in_order os) xs f));
         within = r.within;
       }
 

@@ -15,13 +15,13 @@ use Rattle.book.specs.Names.{Name, Roles, Rule, Duty}
 use Rattle.book.specs.Decide.{Call, Answer, Decision, refused, new_role, new_rule, worked, granted, answer}
 use Rattle.book.specs.MachineSteps.{PositionMachine, fresh_machine, machine_duty, machine_decides, move_on, machine_next, machine_step}
 use Rattle.book.specs.Session.{answers, left}
-use Rattle.book.specs.Images.{in_order, marks_record}
 use Rattle.book.specs.Restoring.{and_then, take_asked, take_line, take_lines, marks_read, restored}
 use Rattle.book.specs.Accepted.{calls_of, left_by, rules_of, Accepted}
 use Rattle.book.proofs.Runs.{left-append, answers-append}
 use Rattle.book.proofs.ImageLists.{Whole, IsLine, take-append}
 use Rattle.book.proofs.Lasting.{Ruled, Lasting, fresh_lasting, left_lasting}
-use Rattle.book.proofs.Restored.{marks-restored, marks-whole, marks_no_lines, joined-restored, parts-restored}
+use Rattle.book.proofs.GivenRecords.{given_wholes, given_no_lines}
+use Rattle.book.proofs.Restored.{marks-restored, joined-restored, parts-restored}
 use Rattle.book.proofs.Accepted.{handed, handed_decides}
 
 -- a call that is not refused
@@ -141,7 +141,7 @@ module _ (s : List ℕ) (t : PositionMachine) (a : Accepted s t) where
 
   -- its marks
   abbrev ms : List (List ℕ)
-  ms = map marks_record (in_order t.rules)
+  ms = a.mark_records
 
   -- its lines are taken
   lines-take : take_lines fresh_machine ls ≡ some (left_by ls)
@@ -164,7 +164,7 @@ module _ (s : List ℕ) (t : PositionMachine) (a : Accepted s t) where
       let l : Lasting (left_by ls) = left_lasting (calls_of ls) fresh_machine fresh_lasting in
       let il : All IsLine ls = all_map Lined IsLine (λ r e. eq-eqb (get_or r 0 0) line_byte e) ls a.lines in
       ap restored a.bytes
-      ∙ joined-restored (ls ++ ms) (all_append Whole ls ms (lines-whole ls fresh_machine a.lines a.taken) (marks-whole (in_order t.rules)))
-      ∙ parts-restored ls ms il (marks_no_lines (in_order t.rules))
+      ∙ joined-restored (ls ++ ms) (all_append Whole ls ms (lines-whole ls fresh_machine a.lines a.taken) (given_wholes a.marks))
+      ∙ parts-restored ls ms il (given_no_lines a.marks)
       ∙ ap (λ (x : Option PositionMachine). and_then x (λ u. marks_read u ms)) lines-take
-      ∙ marks-restored (left_by ls) t a.roles a.rules (subst (λ (r : Roles). Ruled r (rules_of t.rules)) a.roles (subst (Ruled (left_by ls).roles) a.rules l.ruled)) a.within
+      ∙ marks-restored (left_by ls) t ms a.roles a.rules (subst (λ (r : Roles). Ruled r (rules_of t.rules)) a.roles (subst (Ruled (left_by ls).roles) a.rules l.ruled)) a.within a.marks

@@ -1,15 +1,19 @@
 -- Demand 2 in document 01's words, of the book at any call: what is taken and what is refused, exactly; and how an event is answered.
 -- Assumes nothing.
-use Rattle.std.proofs.Common.{◌≡◌, refl, ap, ◌∙◌, true, ◌↔◌, ◌⊎◌, inl, inr, List, ℕ, ◌<◌, arith, length}
+use Rattle.std.proofs.Common.{◌≡◌, refl, ap, ◌∙◌, subst, true, ◌↔◌, ◌⊎◌, inl, inr, List, ℕ, ◌<◌, arith, length}
 use Rattle.std.proofs.lemmas.List.{length-map}
+use Rattle.common.specs.Limits.{max_rules}
 use Rattle.lexer.specs.Words.{same}
+use Rattle.grammar.specs.AsRead.{Past, Pattern, Response, rule}
+use Rattle.grammar.specs.Names.{rule_names}
 use Rattle.patterns.specs.Roles.{all_held}
 use Rattle.patterns.specs.Meets.{order_of}
-use Rattle.intake.specs.Asked.{Asked}
+use Rattle.intake.specs.Asked.{Asked, refused_by, asks_role, asks_rule, asks_event}
 use Rattle.intake.specs.Rows as asks
-use Rattle.intake.specs.Rows.{SaysEvent, row_2, row_3, row_4_line, row_4_event, row_5_role, row_5_rule, row_6_role, row_6_rule, row_6_event, row_7, row_8_role, row_8_rule, takes_role, takes_rule, takes_event}
+use Rattle.intake.specs.Rows.{SaysLine, SaysEvent, row_2, row_3, row_4_line, row_4_event, row_5_role, row_5_rule, row_6_role, row_6_rule, row_6_event, row_7, row_8_role, row_8_rule, takes_role, takes_rule, takes_event}
+use Rattle.intake.proofs.LongPasts.{every_past, no_row_7}
 use Rattle.chain.specs.Work.{chain, work_event}
-use Rattle.book.specs.Names.{Event, Roles, Duty, Outcome}
+use Rattle.book.specs.Names.{Name, Event, Roles, Duty, Outcome}
 use Rattle.book.specs.Decide.{Call, Decision, refused, new_role, new_rule, worked, duty_names, granted, outcome_reply, answer}
 use Rattle.book.specs.Book.{Book, book_duty, book_duties, book_decides, book_next, book_step}
 use Rattle.book.specs.Session.{left}
@@ -101,6 +105,26 @@ module _ (b : Book) (c : Call) where
       back : Full b.roles (book_duties b) c → (book_step b c).1.number ≡ 8
       back (full-roles k s l) = (number_exactly 8 (omega arith)).1 (rows_on k (row_8_role s l))
       back (full-rules k s l) = let q = length-map (book_duties b) (λ (d : Duty). d.rule) in (number_exactly 8 (omega arith)).1 (rows_on k (row_8_rule s (omega arith)))
+
+  -- Row 7: "A line of 126 bytes can't hold 64 patterns, so refusal 7 can no longer be met, and the team shows this." (C-15)
+  pub seven_never : (book_step b c).1.number ≡ 7 → ⊥
+  unfolding answer
+  seven_never = go (book_decides b c) (decided b.roles (book_duties b) c)
+    where
+      asked : (a : Asked) → asks.RecordRow b.roles (duty_names (book_duties b)) c.bytes a → (answer (granted b.roles (book_duties b) a) c.buffer).number ≡ 7 → ⊥
+      asked (refused_by n) r q = no_row_7 b.roles (duty_names (book_duties b)) c.bytes (subst (λ (k : ℕ). asks.RecordRow b.roles (duty_names (book_duties b)) c.bytes (refused_by k)) q r)
+      asked (asks_role n p) r q = omega arith
+      asked (asks_rule x) r q = omega arith
+      asked (asks_event e) r q = omega arith
+
+      go : (d : Decision) → CallRow b.roles (book_duties b) c d → (answer d c.buffer).number ≡ 7 → ⊥
+      go d (row_1 h) q = omega arith
+      go d (rows_on {a = a} l r) q = asked a r q
+
+  -- So a rule line is taken whatever its past, where its names and a free place allow it.
+  pub every_past_taken : (n : Name) (p : Past) (t : Pattern) (x : Response) → Lends c → SaysLine c.bytes (rule n p t x) → asks.Free b.roles (duty_names (book_duties b)) n
+      → all_held same b.roles (rule_names p t x) ≡ true → length (book_duties b) < max_rules → (book_step b c).1.number ≡ 0
+  every_past_taken n p t x l s f h m = taken_exactly.1 (allowed_rule l (every_past b.roles (duty_names (book_duties b)) c.bytes n p t x s f h) m)
 
   -- "The monitor is unchanged by every row."
   pub refused-same : (n : ℕ) → book_decides b c ≡ refused n → (book_step b c).0 ≡ b

@@ -1,6 +1,6 @@
 -- The image of a machine that operations leave says that machine: what keeping writes, restoring reads.
 -- Assumes nothing.
-use Rattle.std.proofs.Common.{◌≡◌, refl, sym, ap, ap₂, ◌∙◌, Bool, cond, List, [], ◌∷◌, ◌++◌, map, append_assoc, ℕ, ◌*◌, ◌/◌, ◌%◌, arith, length, drop, eq-eqb}
+use Rattle.std.proofs.Common.{◌≡◌, refl, sym, ap, ap₂, ◌∙◌, subst, Bool, cond, List, [], ◌∷◌, ◌++◌, map, append_assoc, ℕ, ◌*◌, ◌/◌, ◌%◌, arith, length, drop, eq-eqb}
 use mathlib.Core.List.{map-map}
 use Rattle.std.proofs.Math.Option.{Option, none, some}
 use Rattle.std.proofs.lemmas.List.{length-map}
@@ -16,48 +16,41 @@ use Rattle.render.specs.Records.{line_record}
 use Rattle.render.proofs.ReadBack.{record_length}
 use Rattle.book.specs.Names.{Roles, Rule}
 use Rattle.book.specs.MachineSteps.{PositionRule, PositionMachine, fresh_machine}
-use Rattle.book.specs.Images.{in_order, joined, digits, role_line, rule_line, role_record, rule_record, marks_record, image_records, image_of}
+use Rattle.book.specs.Images.{in_order, joined, role_line, rule_line, role_record, rule_record, marks_record, image_records, image_of}
 use Rattle.book.specs.Restoring.{and_then, take_lines, rule_marks, with_marks, read_marks, marks_read, restored_from, restored}
-use Rattle.book.specs.Accepted.{rules_of}
+use Rattle.book.specs.Accepted.{rules_of, Gives, AllGive, give_none, give_more}
 use Rattle.book.proofs.Decided.{RuleFits}
 use Rattle.book.proofs.ImageLists.{order_twice, order_map, Whole, joined_length, joined_cut, IsLine, NoLine, lines-first, others-last, take-append}
-use Rattle.book.proofs.MarkRecords.{mark-length, mark_no_line, read_mark_exactly, digits_room}
+use Rattle.book.proofs.MarkRecords.{record_marks_exactly}
+use Rattle.book.proofs.GivenRecords.{given_said, kept_give, gives_in_order, given_wholes, given_no_lines}
 use Rattle.book.proofs.TakenLines.{line-is, bare, bare_rules, roles-taken, rules-taken}
 use Rattle.book.proofs.Lasting.{Ruled, Within, Lasting, ruled_fits}
 
 -- MARKS, READ
 
--- a rule's marks are read from the record that keeping writes of them
-mark_read : (rs : Roles) (x : PositionRule) → RuleFits rs x.rule → Within x → rule_marks x.rule (marks_record x) ≡ some x.positions
-mark_read rs x f h =
-    (read_mark_exactly digits x.rule.name (size_past x.rule.past) (marks_record x) x.positions (omega arith) (digits_room (size_past x.rule.past) f.small)
-    ).1 (record { bytes = refl; within = h })
+-- a rule's marks are read from a record that gives them
+mark_read : (rs : Roles) (x : PositionRule) (s : List ℕ) → RuleFits rs x.rule → Within x → Gives x s → rule_marks x.rule s ≡ some x.positions
+mark_read rs x s f h g = (record_marks_exactly x.rule.name (size_past x.rule.past) s x.positions).1 (given_said x s f.small h g)
 
 -- all of them, by a machine with the same rules
-marks_read_lem : (rs : Roles) (xs ys : List PositionRule) → rules_of ys ≡ rules_of xs → All (λ x. RuleFits rs x.rule) xs → All Within xs → read_marks ys (map marks_record xs) ≡ some xs
-marks_read_lem rs [] [] e f h = refl
-marks_read_lem rs [] (y ∷ ys) e f h = absurd (let z = ap length e in omega arith)
-marks_read_lem rs (x ∷ xs) [] e f h = absurd (let z = ap length e in omega arith)
-marks_read_lem rs (x ∷ xs) (y ∷ ys) e f h =
-    ap (λ (r : Rule). with_marks r (rule_marks r (marks_record x)) (read_marks ys (map marks_record xs))) (cons_head e)
-    ∙ ap₂ (λ (m : Option ℕ) (zs : Option (List PositionRule)). with_marks x.rule m zs) (mark_read rs x f.0 h.0) (marks_read_lem rs xs ys (cons_tail e) f.1 h.1)
+marks_read_lem : (rs : Roles) (xs ys : List PositionRule) (ss : List (List ℕ)) → rules_of ys ≡ rules_of xs → All (λ x. RuleFits rs x.rule) xs → All Within xs → AllGive xs ss
+    → read_marks ys ss ≡ some xs
+marks_read_lem rs [] [] [] e f h give_none = refl
+marks_read_lem rs [] [] (s ∷ ss) e f h g = elim g [ ]
+marks_read_lem rs (x ∷ xs) (y ∷ ys) [] e f h g = elim g [ ]
+marks_read_lem rs [] (y ∷ ys) ss e f h g = absurd (let z = ap length e in omega arith)
+marks_read_lem rs (x ∷ xs) [] ss e f h g = absurd (let z = ap length e in omega arith)
+marks_read_lem rs (x ∷ xs) (y ∷ ys) (s ∷ ss) e f h (give_more g gs) =
+    ap (λ (r : Rule). with_marks r (rule_marks r s) (read_marks ys ss)) (cons_head e)
+    ∙ ap₂ (λ (m : Option ℕ) (zs : Option (List PositionRule)). with_marks x.rule m zs) (mark_read rs x s f.0 h.0 g) (marks_read_lem rs xs ys ss (cons_tail e) f.1 h.1 gs)
 
 -- a machine's marks, read by one with the same roles and rules, whatever its marks
-pub marks-restored : (u t : PositionMachine) → u.roles ≡ t.roles → rules_of u.rules ≡ rules_of t.rules → Ruled t.roles (rules_of t.rules) → All Within t.rules
-    → marks_read u (map marks_record (in_order t.rules)) ≡ some t
-marks-restored u t r e k w =
-    ap (λ (x : List (List ℕ)). and_then (read_marks u.rules x) (λ xs. some (record { roles = u.roles; rules = xs })))
-    (ap in_order (order_map marks_record t.rules) ∙ order_twice (map marks_record t.rules))
-    ∙ ap (λ (x : Option (List PositionRule)). and_then x (λ xs. some (record { roles = u.roles; rules = xs }))) (marks_read_lem t.roles t.rules u.rules e (ruled_fits t.roles t.rules k) w)
+pub marks-restored : (u t : PositionMachine) (ss : List (List ℕ)) → u.roles ≡ t.roles → rules_of u.rules ≡ rules_of t.rules → Ruled t.roles (rules_of t.rules) → All Within t.rules
+    → AllGive (in_order t.rules) ss → marks_read u ss ≡ some t
+marks-restored u t ss r e k w g =
+    ap (λ (x : Option (List PositionRule)). and_then x (λ xs. some (record { roles = u.roles; rules = xs })))
+    (marks_read_lem t.roles t.rules u.rules (in_order ss) e (ruled_fits t.roles t.rules k) w (subst (λ (l : List PositionRule). AllGive l (in_order ss)) (order_twice t.rules) (gives_in_order g)))
     ∙ ap (λ (x : Roles). some (record { roles = x; rules = t.rules })) r
-
--- the records of marks are whole
-pub marks-whole : (xs : List PositionRule) → All Whole (map marks_record xs)
-marks-whole xs = all_mapped marks_record Whole xs (all_of (λ x. Whole (marks_record x)) (λ x. mark-length digits x.rule.name x.positions) xs)
-
--- nor is one of them a line
-pub marks_no_lines : (xs : List PositionRule) → All NoLine (map marks_record xs)
-marks_no_lines xs = all_mapped marks_record NoLine xs (all_of (λ x. NoLine (marks_record x)) (λ x. mark_no_line digits x.rule.name x.positions) xs)
 
 -- WHOLE RECORDS
 
@@ -96,7 +89,7 @@ module _ (t : PositionMachine) where
       (all_mapped role_record Whole (drop 1 (in_order t.roles)) (all_of (λ r. Whole (role_record r)) (λ r. record_length line_byte (line_text (role_line r))) (drop 1 (in_order t.roles))))
       (all_append Whole rule_records mark_records
       (all_mapped rule_record Whole (in_order t.rules) (all_of (λ x. Whole (rule_record x)) (λ x. record_length line_byte (line_text (rule_line x.rule))) (in_order t.rules)))
-      (marks-whole (in_order t.rules)))
+      (given_wholes (kept_give (in_order t.rules))))
 
   -- "records of 128 bytes again"
   pub image_length : length (image_of t) ≡ record_size * length (image_records t)
@@ -138,6 +131,6 @@ module _ (t : PositionMachine) where
     image_restored =
         joined-restored (image_records t) all_whole
         ∙ ap restored_from (sym (append_assoc role_records rule_records mark_records))
-        ∙ parts-restored (role_records ++ rule_records) mark_records all_lines (marks_no_lines (in_order t.rules))
+        ∙ parts-restored (role_records ++ rule_records) mark_records all_lines (given_no_lines (kept_give (in_order t.rules)))
         ∙ ap (λ (x : Option PositionMachine). and_then x (λ u. marks_read u mark_records)) lines-taken
-        ∙ marks-restored declared t refl (bare_rules (rules_of t.rules)) s.ruled s.within
+        ∙ marks-restored declared t mark_records refl (bare_rules (rules_of t.rules)) s.ruled s.within (kept_give (in_order t.rules))

@@ -142,7 +142,7 @@ five_hops =
     ∷ turn "Ea" 0 "T 64 p0"
     ∷ []
 
--- every row of the refusals but 9 and 10, and which goes first where two apply
+-- every row of the refusals but 7, 9 and 10, and which goes first where two apply; 7 is met by no line: one with 55 patterns, the most that it can hold, is taken
 abbrev pub refusals : List Turn
 refusals =
     turn "Lrole lamp under top" 0 "D 00 lamp"
@@ -159,9 +159,8 @@ refusals =
     ∷ turn "Lrole top under mauve" 5 "R 05 -"
     ∷ turn "Lrole x under mauve" 6 "R 06 -"
     ∷ turn "Lrule top: <mauve>;any;hold" 5 "R 05 -"
-    ∷ turn "Lrule a: <><><><><><><><><><><><><><><><><><><><><><><><><><><><><><><><zz>;any;hold" 6 "R 06 -"
-    ∷ turn "Lrule a: <><><><><><><><><><><><><><><><><><><><><><><><><><><><><><><><>;any;hold" 7 "R 07 -"
-    ∷ turn "Lrule a: <><><><><><><><><><><><><><><><><><><><><><><><><><><><><><><>;any;hold" 0 "D 00 a"
+    ∷ turn "Lrule a:<><><><><><><><><><><><><><><><><><><><><><><><><><><><><><><><><><><><><><><><><><><><><><><><><><><><><><zz>;<>;hold" 6 "R 06 -"
+    ∷ turn "Lrule a:<><><><><><><><><><><><><><><><><><><><><><><><><><><><><><><><><><><><><><><><><><><><><><><><><><><><><><><>;<>;hold" 0 "D 00 a"
     ∷ turn "Lrole a under top" 5 "R 05 -"
     ∷ turn "Ea" 6 "R 06 -"
     ∷ turn "Lrule b: [<uv> or not (<lamp> or <+top>)] # ; any ; send < # 1 >" 4 "R 04 -"

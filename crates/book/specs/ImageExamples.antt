@@ -35,7 +35,7 @@ begun_with m = "Lrole lamp under top" ∷ "Lrole uv under lamp" ∷ "Lrole expos
 
 -- any is pattern 1 and <uv> pattern 2: the act uv set marks 1 and 2
 abbrev pub begun_image : List ℕ
-begun_image = image_text (begun_with "Ma        00000006")
+begun_image = image_text (begun_with "Ma        0000000000000006")
 
 -- the machine that the session leaves
 abbrev pub begun_machine : PositionMachine
@@ -60,9 +60,16 @@ turned_away =
     ∷ image_text ("Lrule a:any;any;hold" ∷ "Lrule b:any;any;hold" ∷ "Mb        00000001" ∷ "Ma        00000001" ∷ [])  -- not "in order"
     ∷ image_text ("Lrule a:any;any;hold" ∷ "Ma        00000004" ∷ [])  -- not "with marks its past has": mark 2, and it has one pattern
     ∷ image_text ("Lrule a:();any;hold" ∷ "Ma        00000002" ∷ [])  -- mark 1, and it has none
+    ∷ image_text ("Lrule a:any;any;hold" ∷ "Ma        0000000000000004" ∷ [])  -- mark 2 again, in sixteen digits
+    ∷ image_text ("Lrule a:any;any;hold" ∷ "Ma        0000000100000001" ∷ [])  -- mark 32
     ∷ image_text ("Lrule a:any any any any;any;hold" ∷ "Ma        0000000a" ∷ [])  -- not "capital hexadecimal digits"
-    ∷ image_text ("Lrule a:any;any;hold" ∷ "Ma        0000001" ∷ [])  -- not "eight"
+    ∷ image_text ("Lrule a:any any any any;any;hold" ∷ "Ma        000000000000000a" ∷ [])
+    ∷ image_text ("Lrule a:any;any;hold" ∷ "Ma        0000001" ∷ [])  -- not "sixteen" or "eight": seven
+    ∷ image_text ("Lrule a:any;any;hold" ∷ "Ma        000000001" ∷ [])  -- nine
+    ∷ image_text ("Lrule a:any;any;hold" ∷ "Ma        000000000000001" ∷ [])  -- fifteen
+    ∷ image_text ("Lrule a:any;any;hold" ∷ "Ma        00000000000000001" ∷ [])  -- seventeen
     ∷ image_text ("Lrule a:any;any;hold" ∷ "Ma        00000001 1" ∷ [])  -- not "spaces" after them
+    ∷ image_text ("Lrule a:any;any;hold" ∷ "Ma        0000000000000001 1" ∷ [])
     ∷ image_text ("Lrule a:any;any;hold" ∷ "M a       00000001" ∷ [])  -- not "the name in eight columns"
     ∷ image_text ("Lrule a:any;any;hold" ∷ "Na        00000001" ∷ [])  -- not "byte `M`"
     ∷ []
@@ -77,6 +84,8 @@ accepted =
     ∷ image_text ("Lrule a:();any;hold" ∷ "Ma        00000001" ∷ [])  -- no pattern: mark 0 alone
     ∷ image_text ("Lrule a:any;any;hold" ∷ "Ma        00000000" ∷ [])  -- no mark: the rule can no longer match
     ∷ image_text ("Lrule a:any;any;hold" ∷ "Ma        00000003" ∷ [])  -- marks that no list of acts leads to
+    ∷ image_text ("Lrule a:any any any any;any;hold" ∷ "Ma        000000000000001F" ∷ [])  -- "sixteen digits"
+    ∷ image_text ("Lrule a:any;any;hold" ∷ "Lrule b:any;any;hold" ∷ "Ma        0000000000000001" ∷ "Mb        00000001" ∷ [])  -- sixteen, and "any `M` record with eight"
     ∷ []
 
 -- 12, or 0 where the image is accepted
@@ -109,7 +118,7 @@ abbrev pub back_again : List Done
 back_again =
     map one begun
     ++ (keep_refused 639
-    ∷ keep_done (begun_with "Ma        00000006")
+    ∷ keep_done (begun_with "Ma        0000000000000006")
     ∷ one (turn "Elamp" 0 "C 00 -        lamp")
     ∷ one (turn "Eexpose" 0 "C 00 -        expose")
     ∷ one (turn "Lrole late under top" 0 "D 00 late")
@@ -118,7 +127,7 @@ back_again =
     ∷ one (turn "Eexpose" 0 "H 01 a")
     ∷ restore_refused (replicate 640 7)
     ∷ one (turn "Eexpose" 0 "H 01 a")
-    ∷ keep_done (begun_with "Ma        00000006")
+    ∷ keep_done (begun_with "Ma        0000000000000006")
     ∷ [])
 
 -- "for another accepted image, the marks it gives are followed": mark 2, given alone, may end the past, and nothing may follow it, so that after an act no mark is set;
@@ -128,14 +137,36 @@ elsewhere =
     restore_done (image_text (begun_with "Ma        00000004"))
     ∷ one (turn "Eexpose" 0 "H 01 a")
     ∷ one (turn "Elamp" 0 "C 00 -        lamp")
-    ∷ keep_done (begun_with "Ma        00000000")
+    ∷ keep_done (begun_with "Ma        0000000000000000")
     ∷ one (turn "Euv" 0 "C 00 -        uv")
     ∷ one (turn "Eexpose" 0 "C 00 -        expose")
     ∷ restore_done (image_text (begun_with "Ma        00000001"))
     ∷ one (turn "Eexpose" 0 "C 00 -        expose")
     ∷ one (turn "Euv" 0 "C 00 -        uv")
-    ∷ keep_done (begun_with "Ma        00000006")
+    ∷ keep_done (begun_with "Ma        0000000000000006")
     ∷ one (turn "Eexpose" 0 "H 01 a")
+    ∷ []
+
+-- "A Greek collection's sheet needs 35 patterns in one past": 35 times the act of no roles, which sets the mark after each that is set
+abbrev pub greek_with : String → List String
+greek_with m = "Lrule g:<><><><><><><><><><><><><><><><><><><><><><><><><><><><><><><><><><><>;<top>;hold" ∷ m ∷ []
+
+-- marks above 31; then an `M` record with eight digits is read, "its higher marks clear", though mark 35 was set: mark 31 alone, and after an act mark 32, which has its own bit;
+-- "keeping writes sixteen"
+abbrev pub greek : List Done
+greek =
+    restore_done (image_text (greek_with "Mg        0000000400000000"))
+    ∷ one (turn "Etop" 0 "C 00 -        top")
+    ∷ restore_done (image_text (greek_with "Mg        0000000400000000"))
+    ∷ one (turn "E" 0 "C 00 -")
+    ∷ keep_done (greek_with "Mg        0000000800000000")
+    ∷ one (turn "Etop" 0 "H 01 g")
+    ∷ restore_done (image_text (greek_with "Mg        80000000"))
+    ∷ keep_done (greek_with "Mg        0000000080000000")
+    ∷ one (turn "E" 0 "C 00 -")
+    ∷ keep_done (greek_with "Mg        0000000100000000")
+    ∷ restore_refused (image_text (greek_with "Mg        0000001000000000"))
+    ∷ keep_done (greek_with "Mg        0000000100000000")
     ∷ []
 
 -- "one space between two neighbouring words and no other space but the padding after the text"
@@ -149,13 +180,13 @@ spacing =
     ("Lrole uv under top"
     ∷ "Lrule b:[not<uv>or any](<uv+top*>)*;any;send<#1 uv top>"
     ∷ "Lrule c:[not not any]();<>;pass"
-    ∷ "Mb        00000001"
-    ∷ "Mc        00000001"
+    ∷ "Mb        0000000000000001"
+    ∷ "Mc        0000000000000001"
     ∷ [])
     ∷ []
 
 -- all of it
 abbrev pub ImagesRight : Type 0
 ImagesRight =
-    (image_of begun_machine ≡ begun_image) × (map accepts turned_away ≡ replicate 19 12) × (map accepts accepted ≡ replicate 7 0)
-    × Results back_again × Results elsewhere × Results spacing
+    (image_of begun_machine ≡ begun_image) × (map accepts turned_away ≡ replicate 26 12) × (map accepts accepted ≡ replicate 9 0)
+    × Results back_again × Results elsewhere × Results greek × Results spacing

@@ -1,4 +1,4 @@
--- Images: what keeping writes. Document 02, C-12: "The monitor is written out as an image, records of 128 bytes again."
+-- Images: what keeping writes. Document 02, C-12: "The monitor is written out as an image, records of 128 bytes again."; C-15 for the digits of marks.
 -- Assumes nothing.
 use Rattle.std.specs.Prelude.{cond, List, [], ◌∷◌, ◌++◌, map, ℕ, zero, suc, ◌+◌, ◌/◌, ◌%◌, ltb, drop}
 use Rattle.common.specs.Limits.{name_size}
@@ -27,9 +27,9 @@ joined (r ∷ rs) = r ++ joined rs
 abbrev pub mark_byte : ℕ
 mark_byte = 77
 
--- "eight capital hexadecimal digits"
+-- C-15: "`M` records now carry sixteen digits", "keeping writes sixteen"; C-12's "eight capital hexadecimal digits" are still read (specs/Restoring.antt)
 abbrev pub digits : ℕ
-digits = 8
+digits = 16
 
 -- a capital hexadecimal digit: 48 is `0`, 65 is `A`
 unfoldable pub hex_digit : ℕ → ℕ
@@ -40,7 +40,7 @@ unfoldable pub hex_of : ℕ → ℕ → List ℕ
 hex_of zero m = []
 hex_of (suc k) m = hex_of k (m / 16) ++ (hex_digit (m % 16) ∷ [])
 
--- "a record of byte `M`, the name in eight columns, a space, the marks as eight capital hexadecimal digits .., spaces, newline"
+-- "a record of byte `M`, the name in eight columns, a space, the marks as .. capital hexadecimal digits .., spaces, newline": with k digits
 unfoldable pub mark_record : ℕ → Name → ℕ → List ℕ
 mark_record k w m = text_record mark_byte (padded name_size w ++ (32 ∷ hex_of k m))
 

@@ -1,4 +1,4 @@
--- Restoring: which images are accepted, and the machine that each says. Document 02, C-12, "Turned away: 12, ..".
+-- Restoring: which images are accepted, and the machine that each says. Document 02, C-12, "Turned away: 12, .."; C-15 for the digits of marks.
 -- Assumes nothing.
 use Rattle.std.specs.Prelude.{Bool, cond, ◌&&◌, List, [], ◌∷◌, ℕ, suc, ◌+◌, ◌-◌, ◌*◌, ◌/◌, ◌%◌, ◌^◌, eqb, ltb, length, get_or, take, drop}
 use Rattle.std.proofs.Math.Option.{Option, none, some}
@@ -73,9 +73,21 @@ marks_end n = 2 ^ suc n
 unfoldable pub read_mark : ℕ → Name → ℕ → List ℕ → Option ℕ
 read_mark k w n s = cond (same s (mark_record k w (marks_in k s)) && ltb (marks_in k s) (marks_end n)) (some (marks_in k s)) none
 
+-- "any `M` record with eight is still read, its higher marks clear"
+abbrev pub short_digits : ℕ
+short_digits = 8
+
+-- how many digits an `M` record is read with: eight where a space follows eight columns of them, else sixteen
+unfoldable pub digits_of : List ℕ → ℕ
+digits_of s = cond (eqb (get_or s 18 0) 32) short_digits digits
+
+-- the marks in an `M` record of either kind
+unfoldable pub record_marks : Name → ℕ → List ℕ → Option ℕ
+record_marks w n s = read_mark (digits_of s) w n s
+
 -- of a rule
 abbrev pub rule_marks : Rule → List ℕ → Option ℕ
-rule_marks r s = read_mark digits r.name (size_past r.past) s
+rule_marks r s = record_marks r.name (size_past r.past) s
 
 -- a rule's marks put in front of the others
 abbrev pub with_marks : Rule → Option ℕ → Option (List PositionRule) → Option (List PositionRule)

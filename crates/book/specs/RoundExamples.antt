@@ -26,7 +26,7 @@ later = turn "Eexpose" 0 "H 01 a" ∷ turn "Elamp" 0 "C 00 -        lamp" ∷ tu
 abbrev pub TwoRounds : Type 0
 TwoRounds =
     (round_step (held 16256 [] 0) (batch_of begun) ≡ handed_back begun_image 5 begun)
-    × (round_step (held 16256 begun_image 5) (batch_of later) ≡ handed_back (image_text (begun_with "Ma        00000002")) 5 later)
+    × (round_step (held 16256 begun_image 5) (batch_of later) ≡ handed_back (image_text (begun_with "Ma        0000000000000002")) 5 later)
 
 -- a smaller image over a larger one: the last records of the larger one stay
 abbrev pub Shrinks : Type 0

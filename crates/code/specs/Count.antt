@@ -1,4 +1,4 @@
--- How many patterns a past has, told from its code. Document 01: "A rule line has at most 31 patterns in its past; a bracketed condition counts as one."
+-- How many patterns a past has, told from its code. Document 01: "A rule line has at most 31 patterns in its past; a bracketed condition counts as one." (C-15: 63)
 -- Assumes nothing.
 use Rattle.std.specs.Prelude.{Bool, true, false, cond, not, List, [], ◌∷◌, ℕ, suc, eqb}
 use Rattle.lexer.specs.Class.{among}

@@ -34,7 +34,7 @@ leading_word (other b ∷ ts) = []
 abbrev pub name_in : ℕ → List ℕ → ℕ
 name_in i s = packed (leading_word (drop i (tokens s)))
 
--- "at most 31 patterns in its past": as many begin in the code before its first `;`; a length that no code has is too many
+-- "at most 31 patterns in its past" (C-15: 63): as many begin in the code before its first `;`; a length that no code has is too many
 unfoldable pub few_in : Encoded → Bool
 few_in b = leb b.len code_size && leb (patterns_from false (take b.len b.code)) max_patterns
 

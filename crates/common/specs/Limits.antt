@@ -18,9 +18,9 @@ name_size = 8
 abbrev pub event_size : ℕ
 event_size = 4
 
--- "at most 31 patterns in its past": refusal 7 is above it
+-- Document 02, C-15: "Marks grow from 32 to 64 bits, so that 63 patterns fit beside mark 0": refusal 7 is above it
 abbrev pub max_patterns : ℕ
-max_patterns = 31
+max_patterns = 63
 
 -- "role line with 64 roles held, top included": refusal 8
 abbrev pub max_roles : ℕ

@@ -12,8 +12,8 @@ pub const NAME_SIZE: usize = 8;
 // The most roles of an event.
 pub const EVENT_SIZE: usize = 4;
 
-// The most patterns of a past.
-pub const MAX_PATTERNS: usize = 31;
+// The most patterns of a past, beside position 0.
+pub const MAX_PATTERNS: usize = 63;
 
 // The most roles held, top included.
 pub const MAX_ROLES: usize = 64;

@@ -21,3 +21,4 @@ pub mod Language
 pub mod RenameLaws
 pub mod Examples
 pub mod RenderedLines
+pub mod LongestPast

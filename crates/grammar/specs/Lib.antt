@@ -11,3 +11,4 @@ pub mod Readings
 pub mod Lines
 pub mod Text
 pub mod LineText
+pub mod LongestPast

@@ -17,3 +17,4 @@ pub mod AskLaws
 pub mod KindLaws
 pub mod FreshState
 pub mod MatchLaws
+pub mod LongPasts

@@ -9,6 +9,6 @@ use Rattle.follow.specs.declared.state.Sheet.{Sheet}
 use Rattle.intake.specs.Names.{Rule}
 use Rattle.intake.specs.Represents.{name_at, RuleIs}
 
--- its past has at most 31 patterns
+-- its past has at most 63 patterns
 pub rule-small : (s : Sheet) (k : ℕ) (r : Rule) → RuleIs s k r → size_past r.past ≤ max_patterns
 rule-small s k r x = subst (λ (p : Past). size_past p ≤ max_patterns) (sym x.past) (subst (λ (n : ℕ). n ≤ max_patterns) (sym (size-map (name_at s) x.tree.past)) x.small)

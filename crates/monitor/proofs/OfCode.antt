@@ -2,28 +2,31 @@
 -- `handle`; and the state's own array holds the marks. A fresh monitor keeps the fresh book, and so on after any operations: that is said where all
 -- operations are known (stand, proofs/WholeSession.antt).
 -- Assumes nothing.
-use Rattle.std.proofs.Common.{◌≡◌, refl, sym, subst, ◌∙◌, true, ◌↔◌, List, [], ◌∷◌, ℕ, zero, suc, ◌≤◌, ◌<◌, arith, drop, get_or}
+use Rattle.std.proofs.Common.{◌≡◌, refl, sym, subst, ◌∙◌, true, ◌↔◌, List, [], ◌∷◌, ℕ, zero, suc, ◌≤◌, ◌<◌, arith, length, drop, get_or}
+use Rattle.common.specs.Limits.{max_rules}
 use Rattle.lexer.specs.Words.{same}
+use Rattle.grammar.specs.AsRead.{Past, Pattern, Response, rule}
+use Rattle.grammar.specs.Names.{rule_names}
 use Rattle.patterns.specs.Roles.{all_held}
 use Rattle.patterns.specs.Meets.{order_of}
 use Rattle.positions.specs.Numbers.{size}
 use Rattle.follow.specs.Meaning.{past_meaning}
 use Rattle.follow.specs.declared.state.State.{State}
 use Rattle.follow.proofs.SizeLaws.{size_meaning}
-use Rattle.intake.specs.Rows.{SaysEvent}
+use Rattle.intake.specs.Rows.{SaysLine, SaysEvent, Free}
 use Rattle.intake.specs.Represents.{Represents, Rules, rules-none, rules-more, PositionRuleIs}
 use Rattle.intake.proofs.RuleSizes.{rule-small}
 use Rattle.intake.proofs.MatchLaws.{ends_same}
 use Rattle.chain.specs.Work.{chain, work_event}
-use Rattle.book.specs.Names.{Event, Roles, Outcome}
-use Rattle.book.specs.Decide.{Call, Answer, refused, outcome_reply}
+use Rattle.book.specs.Names.{Name, Event, Roles, Outcome}
+use Rattle.book.specs.Decide.{Call, Answer, refused, duty_names, outcome_reply}
 use Rattle.book.specs.Book.{Book, Entry, book_duties, book_step}
 use Rattle.book.specs.Rows.{Lends, CallRow, Allowed, Full}
 use Rattle.book.specs.Working.{WorkEnds}
 use Rattle.book.specs.MachineSteps.{PositionRule, machine_of}
 use Rattle.book.specs.Marks.{MarksOf, Marked, marked_none, marked_more}
 use Rattle.book.proofs.Agree.{Sound, answer-same}
-use Rattle.book.proofs.Exactly.{number_exactly, taken_exactly, eight_exactly, event-answered}
+use Rattle.book.proofs.Exactly.{number_exactly, taken_exactly, eight_exactly, seven_never, every_past_taken, event-answered}
 use Rattle.book.proofs.Working.{work_exactly}
 use Rattle.book.proofs.GivenMarks.{marks_match}
 use Rattle.book.proofs.Marks.{book_marked}
@@ -57,6 +60,15 @@ module _ (b : Book) (m m' : State) (c : Call) (a : Answer) (k : KeepsBook b m) (
   -- Its number is 8 exactly when no place is free.
   pub code_eight : (a.number ≡ 8) ↔ Full b.roles (book_duties b) c
   code_eight = of_book (λ x. (x.number ≡ 8) ↔ Full b.roles (book_duties b) c) (eight_exactly b c)
+
+  -- Its number is never 7.
+  pub code_seven : a.number ≡ 7 → ⊥
+  code_seven = of_book (λ x. x.number ≡ 7 → ⊥) (seven_never b c)
+
+  -- A rule line is taken whatever its past, where its names and a free place allow it.
+  pub code_every_past : (n : Name) (p : Past) (t : Pattern) (x : Response) → Lends c → SaysLine c.bytes (rule n p t x) → Free b.roles (duty_names (book_duties b)) n
+      → all_held same b.roles (rule_names p t x) ≡ true → length (book_duties b) < max_rules → a.number ≡ 0
+  code_every_past n p t x l s f h m = of_book (λ y. y.number ≡ 0) (every_past_taken b c n p t x l s f h m)
 
   -- An event is answered with the reply of the outcome that "Working an act" gives.
   pub code_event : (e : Event) (o : Outcome) → Lends c → SaysEvent c.bytes e → all_held same b.roles e ≡ true

@@ -1,45 +1,54 @@
 -- Laws of hexadecimal digits: the value of a byte, of one digit more at the end, and how large a number of some digits can be.
 -- Assumes nothing.
-use Rattle.std.proofs.Common.{◌≡◌, refl, sym, ap, ◌∙◌, ℕ, zero, suc, ◌+◌, ◌-◌, ◌*◌, ◌/◌, ◌%◌, ◌^◌, ◌<◌, ◌≤◌, min, List, [], ◌∷◌, ◌++◌, length, take, drop, get_or, arith, add-one, length-drop, length-take, ⊎_elim, ◌⊎◌, inl, inr, take_all, take-suc, drop_of_length-le}
+use Rattle.std.proofs.Common.{◌≡◌, refl, sym, ap, ◌∙◌, Bool, true, false, cond, eqb, ℕ, zero, suc, ◌+◌, ◌-◌, ◌*◌, ◌/◌, ◌%◌, ◌^◌, ◌<◌, ◌≤◌, min, List, [], ◌∷◌, ◌++◌, length, take, drop, get_or, arith, add-one, length-drop, length-take, ⊎_elim, ◌⊎◌, inl, inr, take_all, take-suc, drop_of_length-le}
 use Rattle.std.proofs.Math.Nat.{pow-le-pow_right}
 use Rattle.std.proofs.lemmas.Bool.Decides.{leb_tells}
 use Rattle.std.proofs.Math.Seq.{take-nil}
-use Rattle.book.specs.Images.{hex_digit, hex_of}
-use Rattle.book.specs.Restoring.{hex_value, value_from, marks_in}
+use Rattle.book.specs.Images.{digits, hex_digit, hex_of}
+use Rattle.book.specs.Restoring.{short_digits, digits_of, hex_value, value_from, marks_in}
 use Rattle.book.proofs.MarkRecords.{value-end, marks-below}
 
 -- READING
 
--- the columns of the digits, as many of them as there are
-pub columns-are : (r : List ℕ) (a b : ℕ) → a ≡ min (length r) 10 → b ≡ min (length r) 18 → take (b - a) (drop a r) ≡ take 8 (drop 10 r)
-columns-are r a b p q = ⊎_elim short (λ h. ⊎_elim (some h) (full h) (split 18)) (split 10)
+-- the columns of d digits, as many of them as there are
+pub columns-are : (d : ℕ) (r : List ℕ) (a b : ℕ) → a ≡ min (length r) 10 → b ≡ min (length r) (10 + d) → take (b - a) (drop a r) ≡ take d (drop 10 r)
+columns-are d r a b p q = ⊎_elim short (λ h. ⊎_elim (some h) (full h) (split (10 + d))) (split 10)
   where
     split : (n : ℕ) → (length r ≤ n) ⊎ (n < length r)
     split n = ⊎_elim (λ h. inl h.1) (λ h. inr h.1) (leb_tells (length r) n)
 
-    short : length r ≤ 10 → take (b - a) (drop a r) ≡ take 8 (drop 10 r)
-    short h = rw (drop_of_length-le r {i = a} (omega arith), drop_of_length-le r {i = 10} h, take-nil (b - a)) refl
+    short : length r ≤ 10 → take (b - a) (drop a r) ≡ take d (drop 10 r)
+    short h = rw (drop_of_length-le r {i = a} (omega arith), drop_of_length-le r {i = 10} h, take-nil (b - a), take-nil d) refl
 
     from : 10 < length r → drop a r ≡ drop 10 r
     from h = let e : a ≡ 10 = omega arith in ap (λ (j : ℕ). drop j r) e
 
-    some : 10 < length r → length r ≤ 18 → take (b - a) (drop a r) ≡ take 8 (drop 10 r)
-    some h k = let l = length-drop 10 r in rw (from h) (take_all (b - a) (drop 10 r) (omega arith) ∙ sym (take_all 8 (drop 10 r) (omega arith)))
+    some : 10 < length r → length r ≤ 10 + d → take (b - a) (drop a r) ≡ take d (drop 10 r)
+    some h k = let l = length-drop 10 r in rw (from h) (take_all (b - a) (drop 10 r) (omega arith) ∙ sym (take_all d (drop 10 r) (omega arith)))
 
-    full : 10 < length r → 18 < length r → take (b - a) (drop a r) ≡ take 8 (drop 10 r)
-    full h k = let e : b - a ≡ 8 = omega arith in rw (from h, e) refl
+    full : 10 < length r → 10 + d < length r → take (b - a) (drop a r) ≡ take d (drop 10 r)
+    full h k = let e : b - a ≡ d = omega arith in rw (from h, e) refl
 
--- seven digits leave room for one more, and there are eight columns at most
-pub room_left : (r : List ℕ) (a b k n : ℕ) → a ≡ min (length r) 10 → b ≡ min (length r) 18 → k < length (take (b - a) (drop a r)) → n ≡ value_from 0 (take k (take (b - a) (drop a r)))
-    → n < 268435456
+-- a record is read with sixteen digits at most
+pub digits_few : (d : ℕ) (r : List ℕ) → d ≡ digits_of r → d ≤ 16
+unfolding digits_of
+digits_few d r = go (eqb (get_or r 18 0) 32)
+  where
+    go : (q : Bool) → d ≡ cond q short_digits digits → d ≤ 16
+    go true e = omega arith
+    go false e = omega arith
+
+-- fifteen digits leave room for one more in 64 bits, and there are sixteen columns at most
+pub room_left : (d : ℕ) (r : List ℕ) (a b k n : ℕ) → d ≡ digits_of r → a ≡ min (length r) 10 → b ≡ min (length r) (10 + d) → k < length (take (b - a) (drop a r))
+    → n ≡ value_from 0 (take k (take (b - a) (drop a r))) → n < 1152921504606846976
 unfolding marks_in
-room_left r a b k n p q h e =
-    let l = length-take 8 (drop 10 r) in
-    let c = columns-are r a b p q in
-    let d = ap length c in
-    let few : k ≤ 7 = omega (arith, h, l, d) in
+room_left d r a b k n o p q h e =
+    let l = length-take d (drop 10 r) in
+    let z = digits_few d r o in
+    let y = ap length (columns-are d r a b p q) in
+    let few : k ≤ 15 = omega (arith, h, l, y, z, o) in
     let m : value_from 0 (take k (take (b - a) (drop a r))) < 16 ^ k = marks-below k (0 ∷ 0 ∷ 0 ∷ 0 ∷ 0 ∷ 0 ∷ 0 ∷ 0 ∷ 0 ∷ 0 ∷ take (b - a) (drop a r)) in
-    let w : 16 ^ k ≤ 16 ^ 7 = pow-le-pow_right (omega arith) few in
+    let w : 16 ^ k ≤ 16 ^ 15 = pow-le-pow_right (omega arith) few in
     omega (arith, e, m, w)
 
 -- one digit more

@@ -18,10 +18,10 @@ use Rattle.intake.specs.Names.{Rule}
 use Rattle.intake.specs.Machine.{PositionRule, PositionMachine}
 use Rattle.intake.specs.Represents.{name_at, rule_name_at, RuleIs, Rules, rules-none, rules-more, Represents}
 use Rattle.intake.proofs.TakenNames.{rules-long}
-use Rattle.book.specs.Images.{in_order, digits}
-use Rattle.book.specs.Restoring.{and_then, read_mark, rule_marks, with_marks, read_marks, marks_read}
+use Rattle.book.specs.Images.{in_order}
+use Rattle.book.specs.Restoring.{and_then, record_marks, rule_marks, with_marks, read_marks, marks_read}
 use Rattle.book.proofs.ImageLists.{order_twice, order_length}
-use Rattle.book.proofs.MarkRecords.{mark-said}
+use Rattle.book.proofs.MarkRecords.{said-within, record-said}
 use Rattle.std.specs.Prelude.{Result, Ok, Err, Some, None, ok_or}
 use Rattle.std.specs.Prelude.{Option as Given}
 use Rattle.common.specs.declared.refusals.Refusal as Why
@@ -62,7 +62,7 @@ rule-name s i r x = ap unpacked x.named ∙ unpacked-name r.name x.word.name x.w
 -- what a record says of rule i of the sheet is what it says of the rule
 mark-is : (s : Sheet) (i : ℕ) (r : Rule) (b : List ℕ) → RuleIs s i r → mark_at s.rule_names s.rows b i ≡ rule_marks r (row_at b i)
 unfolding mark_at
-mark-is s i r b x = ap₂ (λ w n. read_mark digits w n (row_at b i)) (rule-name s i r x) (rule-size s i r x)
+mark-is s i r b x = ap₂ (λ w n. record_marks w n (row_at b i)) (rule-name s i r x) (rule-size s i r x)
 
 -- a rule without marks, or others without, is none
 with_none : (r : Rule) (o : Option ℕ) → with_marks r o none ≡ none
@@ -112,7 +112,7 @@ module _ (f : State) (s after : List ℕ) where
   marks-some (suc n) (x ∷ l) (rules-more y ys) h =
       let r = marks-some n l ys (λ i m. h i (omega arith)) in
       let e : rule_marks x.rule (row_at s n) ≡ some (get_or after n 0) = sym (mark-is f.sheet n x.rule s y.rule) ∙ h n (omega arith) in
-      let w = (mark-said digits x.rule.name (size_past x.rule.past) (row_at s n) (get_or after n 0) e).within in (
+      let w = said-within (record-said x.rule.name (size_past x.rule.past) (row_at s n) (get_or after n 0) e) in (
         record { rule = x.rule; positions = get_or after n 0 } ∷ r.0,
         ap (read_marks (x ∷ l)) (records_back n s) ∙ ap₂ (with_marks x.rule) e r.1,
         rules-more (record { rule = y.rule; positions = refl; within = w }) r.2,

@@ -11,11 +11,11 @@ use Rattle.columns.proofs.WriteLaws.{writes_then, writes_same, writes_next}
 use Rattle.columns.proofs.PaddedLaws.{padded-more}
 use Rattle.columns.proofs.BlankLaws.{writes_padded}
 use Rattle.render.proofs.RecordLaws.{record_written}
-use Rattle.book.specs.Images.{digits, hex_of, mark_record}
-use Rattle.book.specs.Restoring.{marks_in, marks_end, read_mark}
+use Rattle.book.specs.Images.{hex_of, mark_record}
+use Rattle.book.specs.Restoring.{marks_in, marks_end, read_mark, digits_of, record_marks}
 use Rattle.snapshot.specs.Reading.{given}
 
--- "a record of byte `M`, the name in eight columns, a space, the marks as eight capital hexadecimal digits .., spaces, newline": from its parts
+-- "a record of byte `M`, the name in eight columns, a space, the marks as .. capital hexadecimal digits .., spaces, newline": from its parts
 pub mark_written : {p q r t : ℕ} {w a b c d : List ℕ} (k m : ℕ) → length w ≤ 8 → Writes 0 (77 ∷ []) (spaces 128) a p → Writes p w a b q → Writes q (spaces (10 - q)) b c r
     → Writes r (hex_of k m) c d t → set d 127 newline ≡ mark_record k w m
 unfolding mark_record
@@ -47,18 +47,18 @@ not_same false false e = refl
 not_same true false e = sym e
 not_same false true e = sym e
 
-module _ (bytes w written : List ℕ) (n m : ℕ) (e : m ≡ marks_in digits bytes) (r : written ≡ mark_record digits w m) where
+module _ (bytes w written : List ℕ) (k n m : ℕ) (d : k ≡ digits_of bytes) (e : m ≡ marks_in (digits_of bytes) bytes) (r : written ≡ mark_record k w m) where
   -- what is read of a record by what is written for its marks
-  read-is : (eq ok : Bool) → not eq ≡ not (bytes_eq bytes written) → ok ≡ ltb m (marks_end n) → read_mark digits w n bytes ≡ cond (eq && ok) (some m) none
-  unfolding read_mark
-  read-is eq ok s k =
-      rw (← e, same-bytes_eq bytes (mark_record digits w m), ← r, ← not_same eq (bytes_eq bytes written) s, ← k) refl
+  read-is : (eq ok : Bool) → not eq ≡ not (bytes_eq bytes written) → ok ≡ ltb m (marks_end n) → record_marks w n bytes ≡ cond (eq && ok) (some m) none
+  unfolding read_mark record_marks
+  read-is eq ok s l =
+      rw (← e, same-bytes_eq bytes (mark_record (digits_of bytes) w m), ← d, ← r, ← not_same eq (bytes_eq bytes written) s, ← l) refl
 
   -- another record
-  pub read_other : not (bytes_eq bytes written) ≡ true → none ≡ read_mark digits w n bytes
+  pub read_other : not (bytes_eq bytes written) ≡ true → none ≡ record_marks w n bytes
   read_other s = sym (read-is false (ltb m (marks_end n)) (sym s) refl)
 
   -- the one written
-  pub read_same : not (bytes_eq bytes written) ≡ false → (ok : Bool) → ok ≡ ltb m (marks_end n) → (o : Option ℕ) → o ≡ then_some ok m → given o ≡ read_mark digits w n bytes
+  pub read_same : not (bytes_eq bytes written) ≡ false → (ok : Bool) → ok ≡ ltb m (marks_end n) → (o : Option ℕ) → o ≡ then_some ok m → given o ≡ record_marks w n bytes
   read_same s true k o h = rw h (sym (read-is true true (sym s) k))
   read_same s false k o h = rw h (sym (read-is true false (sym s) k))

@@ -16,8 +16,7 @@ use Rattle.follow.specs.declared.state.State.{State}
 use Rattle.intake.specs.Machine.{PositionMachine, fresh_machine}
 use Rattle.intake.specs.Represents.{Represents}
 use Rattle.intake.specs.Declaring.{line_asked}
-use Rattle.book.specs.Images.{digits}
-use Rattle.book.specs.Restoring.{take_asked, take_line, take_lines, line_records, other_records, read_mark, marks_read, restored}
+use Rattle.book.specs.Restoring.{take_asked, take_line, take_lines, line_records, other_records, record_marks, marks_read, restored}
 use Rattle.monitor.specs.Handled.{Handled}
 
 -- MARKS
@@ -29,7 +28,7 @@ given (Some m) = some m
 
 -- what `M` record i says of rule i, by its packed name and its code
 unfoldable pub mark_at : List ℕ → List ℕ → List ℕ → ℕ → Option ℕ
-mark_at rule_names rows records i = read_mark digits (unpacked (get_or rule_names i 0)) (patterns_from false (code_of (row_at rows i))) (row_at records i)
+mark_at rule_names rows records i = record_marks (unpacked (get_or rule_names i 0)) (patterns_from false (code_of (row_at rows i))) (row_at records i)
 
 -- the marks of the first n rules are read into an array, each by its record; or, where the array has room for them, one of the records gives none
 pub record MarksTaken (mark : ℕ → Option ℕ) (n : ℕ) (before after : List ℕ) (r : Given Unit) : Type 0 where

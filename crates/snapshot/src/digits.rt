@@ -1,10 +1,16 @@
 // Capital hexadecimal digits.
 ghost use Rattle.std.specs.Prelude.{◌≡◌, ◌%◌};
 ghost use Rattle.book.specs.Images.{hex_digit, hex_of};
-ghost use Rattle.book.specs.Restoring.{hex_value, marks_in};
+ghost use Rattle.book.specs.Restoring.{hex_value, digits_of, marks_in};
 ghost use Rattle.columns.specs.Writing.{Writes};
 
 use columns::put;
+
+// How many digits a record is written with.
+pub const DIGITS: usize = 16;
+
+// How many an older record has.
+const SHORT_DIGITS: usize = 8;
 
 // The last digit of a number.
 #[tactic(auto, unfolding(book::specs::Images::hex_digit))]
@@ -41,13 +47,24 @@ fn hex_value(b: u8) -> u64
     }
 }
 
-// The number in the eight columns from 10 on of a record; where there are fewer bytes, in those that there are.
-#[tactic(auto, using(crate::proofs::DigitLaws::room_left, crate::proofs::DigitLaws::digit_more, book::proofs::MarkRecords::hex_below))]
+// How many digits a record is read with: eight where a space follows eight columns of them, else sixteen.
+#[tactic(auto, unfolding(book::specs::Restoring::digits_of))]
+pub fn digits_of(bytes: &[u8]) -> usize
+    ensures { result ≡ digits_of bytes.now }
+{
+    match bytes.get(10 + SHORT_DIGITS) {
+        Some(b' ') => SHORT_DIGITS,
+        _ => DIGITS,
+    }
+}
+
+// The number that the digits of a record say, from column 10 on; where there are fewer bytes, those that there are.
+#[tactic(auto, using(crate::proofs::DigitLaws::digits_few, crate::proofs::DigitLaws::room_left, crate::proofs::DigitLaws::digit_more, book::proofs::MarkRecords::hex_below))]
 pub fn marks_in(bytes: &[u8]) -> u64
-    ensures { result ≡ marks_in 8 bytes.now }
+    ensures { result ≡ marks_in (digits_of bytes.now) bytes.now }
 {
     let start = bytes.len().min(10);
-    let end = bytes.len().min(18);
+    let end = bytes.len().min(10 + digits_of(bytes));
     let mut n = 0;
     for b in &bytes[start..end] {
         n = n * 16 + hex_value(*b);

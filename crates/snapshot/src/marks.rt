@@ -2,25 +2,22 @@
 // position.
 ghost use Rattle.std.specs.Prelude.{◌≡◌, ltb};
 ghost use Rattle.names.specs.Unpacked.{unpacked};
-ghost use Rattle.book.specs.Images.{digits, mark_record};
-ghost use Rattle.book.specs.Restoring.{marks_end, read_mark};
+ghost use Rattle.book.specs.Images.{mark_record};
+ghost use Rattle.book.specs.Restoring.{marks_end, record_marks};
 ghost use Rattle.snapshot.specs.Reading.{given};
 
-use crate::digits::{marks_in, put_digits};
+use crate::digits::{digits_of, marks_in, put_digits};
 use columns::{blank, put, word};
 
-// How many digits a record has.
-const DIGITS: usize = 8;
-
-// The record of a rule's marks, from its packed name.
-pub fn mark_record(name: u64, marks: u64) -> [u8; 128]
+// The record of a rule's marks, in so many digits, from its packed name.
+pub fn mark_record(digits: usize, name: u64, marks: u64) -> [u8; 128]
     ensures { result ≡ mark_record digits (unpacked name) marks }
 {
     let mut out = [b' '; 128];
     let named = put(&mut out, 0, b'M');
     let end = word(&mut out, named, name);
     let start = blank(&mut out, end, 10);
-    put_digits(&mut out, start, DIGITS, marks);
+    put_digits(&mut out, start, digits, marks);
     out[127] = b'\n';
     out
 }
@@ -33,13 +30,13 @@ fn within(marks: u64, n: usize) -> bool
     63 <= n || marks < (1u64 << (n + 1))
 }
 
-// The marks in a record, where every byte of it is as it is written for a rule of that name and they are among 0 to n.
+// The marks in a record, where every byte of it is as it is written in as many digits for a rule of that name, and they are among 0 to n.
 #[tactic(auto, using(crate::proofs::MarkLaws::read_other, crate::proofs::MarkLaws::read_same))]
 pub fn read_mark(bytes: &[u8], name: u64, n: usize) -> Option<u64>
-    ensures { given result ≡ read_mark digits (unpacked name) n bytes.now }
+    ensures { given result ≡ record_marks (unpacked name) n bytes.now }
 {
     let marks = marks_in(bytes);
-    if bytes != mark_record(name, marks).as_slice() {
+    if bytes != mark_record(digits_of(bytes), name, marks).as_slice() {
         return None;
     }
     within(marks, n).then_some(marks)

@@ -6,6 +6,7 @@ ghost use Rattle.render.specs.Records.{line_record};
 ghost use Rattle.columns.specs.Writing.{Writes};
 ghost use Rattle.snapshot.specs.Written.{first_of, parent_in, role_at, rule_at, marks_at, image_from};
 
+use crate::digits::DIGITS;
 use crate::marks::mark_record;
 use columns::text;
 use follow::{Sheet, State, code_of, number_at, row};
@@ -38,6 +39,7 @@ fn rule_marks(state: &State, i: usize) -> [u8; 128]
     ensures { result ≡ marks_at state.now.sheet.rule_names state.now.positions i }
 {
     mark_record(
+        DIGITS,
         number_at(&state.sheet.rule_names, i),
         number_at(&state.positions, i),
     )

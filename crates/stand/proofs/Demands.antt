@@ -14,18 +14,21 @@ use Rattle.std.proofs.Common.{◌≡◌, refl, sym, ap, ◌∙◌, subst, true, 
 use Rattle.common.specs.All.{All}
 use Rattle.common.specs.Limits.{reply_size, record_size}
 use Rattle.lexer.specs.Words.{same}
-use Rattle.grammar.specs.AsRead.{Line}
+use Rattle.grammar.specs.AsRead.{Past, Pattern, Response, Line, rule}
+use Rattle.grammar.specs.Names.{rule_names}
+use Rattle.grammar.specs.Size.{size_past}
 use Rattle.grammar.specs.Lines.{Says}
 use Rattle.grammar.proofs.Language.{single_reading}
+use Rattle.grammar.proofs.LongestPast.{past_room, longest_there_is}
 use Rattle.patterns.specs.Roles.{all_held}
 use Rattle.patterns.specs.Meets.{order_of}
 use Rattle.follow.specs.declared.state.State.{State}
 use Rattle.intake.specs.Machine.{PositionMachine}
 use Rattle.intake.specs.Represents.{Represents}
-use Rattle.intake.specs.Rows.{SaysEvent}
+use Rattle.intake.specs.Rows.{SaysLine, SaysEvent, Free}
 use Rattle.chain.specs.Work.{chain}
 use Rattle.book.specs.Names.{Event, Outcome}
-use Rattle.book.specs.Decide.{Call, Answer, refused, outcome_reply}
+use Rattle.book.specs.Decide.{Call, Answer, refused, duty_names, outcome_reply}
 use Rattle.book.specs.Book.{Book, fresh_book, book_duties, book_step}
 use Rattle.book.specs.MachineSteps.{machine_of}
 use Rattle.book.specs.Rows.{Lends, CallRow, Allowed, Full}
@@ -186,6 +189,23 @@ taken_when_allowed os m m' c a l h = code.code_taken (book os) m m' c a (left-ke
 -- "A monitor that said 8 with a place free breaks demand 2": the number is 8 exactly when no place is free for a line that passes every other row.
 pub full_when_full : (os : List Operation) (m m' : State) (c : Call) (a : Answer) → LeftBy os m → HandledAs m c a m' → (a.number ≡ 8) ↔ Full (book os).roles (book_duties (book os)) c
 full_when_full os m m' c a l h = code.code_eight (book os) m m' c a (left-keeps os m l) h
+
+-- C-15. "A line of 126 bytes can't hold 64 patterns": 55 at most, whatever the text says besides, and a line with 55 there is.
+pub patterns_in_a_line : (s n : List ℕ) (p : Past) (t : Pattern) (x : Response) → length s ≤ 126 → Says s (rule n p t x) → size_past p ≤ 55
+patterns_in_a_line = past_room
+
+pub as_many_there_are : (s : List ℕ) × (n : List ℕ) × (p : Past) × (t : Pattern) × (x : Response) × (length s ≤ 126) × Says s (rule n p t x) × (size_past p ≡ 55)
+as_many_there_are = longest_there_is
+
+-- "so refusal 7 can no longer be met, and the team shows this": after any operations no call's number is 7.
+pub seven_never : (os : List Operation) (m m' : State) (c : Call) (a : Answer) → LeftBy os m → HandledAs m c a m' → a.number ≡ 7 → ⊥
+seven_never os m m' c a l h = code.code_seven (book os) m m' c a (left-keeps os m l) h
+
+-- So every past that a line can hold is taken, where the line's names and a free place allow it; the theorems of all operations are of it too.
+pub every_past_taken : (os : List Operation) (m m' : State) (c : Call) (a : Answer) → LeftBy os m → HandledAs m c a m'
+    → (n : List ℕ) (p : Past) (t : Pattern) (x : Response) → Lends c → SaysLine c.bytes (rule n p t x) → Free (book os).roles (duty_names (book_duties (book os))) n
+    → all_held same (book os).roles (rule_names p t x) ≡ true → length (book_duties (book os)) < 32 → a.number ≡ 0
+every_past_taken os m m' c a l h = code.code_every_past (book os) m m' c a (left-keeps os m l) h
 
 -- A text has a single reading, over role lines, rule lines and events together.
 pub one_reading : (s : List ℕ) (l k : Line) → Says s l → Says s k → l ≡ k
