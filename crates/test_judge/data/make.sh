@@ -1,5 +1,5 @@
 #!/bin/sh
-# Makes cases.rec and the stored output ../stdout, from document 01 alone: the answers below are written by hand. Run it in this folder.
+# Makes cases.rec and the stored output ../stdout, from document 01 and the limit of C-15 alone: the answers below are written by hand. Run it in this folder.
 set -eu
 LC_ALL=C
 export LC_ALL
@@ -17,6 +17,9 @@ acts() { for text; do record "E$text"; done; }
 
 # n times the same act.
 repeated() { awk -v n="$1" -v text="E$2" 'BEGIN { for (i = 0; i < n; i++) printf "%-127s\n", text }'; }
+
+# n times the same text, with no newline.
+repeat() { awk -v n="$1" -v text="$2" 'BEGIN { for (i = 0; i < n; i++) printf "%s", text }'; }
 
 # Handed to the monitor.
 say() { records >>cases.rec; }
@@ -148,8 +151,35 @@ END
 acts violet | ask 2 yes '<+lamp>: violet, declared under uv'
 acts violet | ask 3 no '<lamp>: violet, declared under uv'
 
+# C-15: the most patterns that a line holds, 55; a past of 35, of them 18 and 35 <uv>; and one whose 34 end in (<uv><lamp>)*<expose>, all within a star
+{
+    echo "Lrule l:$(repeat 55 '<>');<>;pass"
+    echo "Lrule m:$(repeat 17 '<>')<uv>$(repeat 16 '<>')<uv>*;any;pass"
+    echo "Lrule n:($(repeat 31 '<>')+(<uv><lamp>)*<expose>)*;any;pass"
+} | say
+repeated 55 '' | ask 11 yes '55 patterns <>: 55 acts of no roles'
+repeated 54 '' | ask 11 no '55 patterns <>: 54 acts of no roles'
+repeated 56 '' | ask 11 no '55 patterns <>: 56 acts of no roles'
+acts | ask 11 no '55 patterns <>: empty'
+{ repeated 54 '' && acts uv; } | ask 11 no '55 patterns <>: 54 acts of no roles, then uv'
+{ acts uv && repeated 54 ''; } | ask 11 no '55 patterns <>: uv, then 54 acts of no roles'
+{ repeated 55 '' && record 'Luv'; } | ask 11 'R 03' '55 patterns <>: 55 acts of no roles, then a line'
+first() { repeated 17 '' && acts uv && repeated "$1" ''; }
+first 16 | ask 12 yes '35 patterns, the last a star: the first 34'
+{ first 16 && acts uv; } | ask 12 yes '35 patterns, the last a star: each once'
+{ first 16 && repeated 100 uv; } | ask 12 yes '35 patterns, the last a star: the last a hundred times'
+{ first 15 && acts uv; } | ask 12 no '35 patterns, the last a star: all but the 34th'
+{ first 16 && acts uv lamp; } | ask 12 no '35 patterns, the last a star: lamp after each once'
+{ first 16 && acts uv '' uv; } | ask 12 no '35 patterns, the last a star: an act of no roles among the last'
+acts | ask 13 yes '34 patterns in a star: empty'
+acts uv lamp expose uv lamp uv lamp expose | ask 13 yes '34 patterns in a star: two rounds by the second side'
+acts uv lamp uv expose | ask 13 no '34 patterns in a star: uv, lamp, uv, expose'
+{ acts expose && repeated 31 '' && acts uv lamp expose; } | ask 13 yes '34 patterns in a star: a round by the first side between two by the second'
+{ acts expose && repeated 30 '' && acts uv lamp expose; } | ask 13 no '34 patterns in a star: the same with one act of no roles less'
+{ repeated 31 '' && acts uv lamp; } | ask 13 no '34 patterns in a star: the last round not ended'
+
 # 32 rules: 31 is the last one's number.
-awk 'BEGIN { for (i = 12; i <= 32; i++) printf "Lrule r%d: <expose>; any; pass\n", i }' | say
+awk 'BEGIN { for (i = 15; i <= 32; i++) printf "Lrule r%d: <expose>; any; pass\n", i }' | say
 acts expose | ask 31 yes 'rule 31 of 32, <expose>: expose'
 acts uv | ask 31 no 'rule 31 of 32, <expose>: uv'
 acts expose | ask 32 'R 09' 'rule 32 of 32: expose'
