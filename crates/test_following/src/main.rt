@@ -11,7 +11,7 @@ pub mod shown;
 pub mod steps;
 
 use follow::State;
-use full::{filled, thirty};
+use full::{filled, unnamed};
 use std::io;
 use steps::{role_declared, rule_declared};
 
@@ -25,8 +25,10 @@ fn main(rt: HostRuntime) -> io::Result<()> {
     sheet::refused_roles(&rt, &mut state)?;
     sheet::refused_rules(&rt, &mut state)?;
     sheet::longest(&rt, &mut state)?;
-    thirty(&mut state);
+    unnamed(&mut state, 30);
     sheet::ended(&rt, &mut state)?;
+    unnamed(&mut state, 18);
+    sheet::ended_last(&rt, &mut state)?;
     filled(&rt, &mut state, *b"role x00 under lamp", role_declared)?;
     sheet::full_of_roles(&rt, &mut state)?;
     filled(
