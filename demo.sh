@@ -53,7 +53,7 @@ show() {
       meaning["04"] = "the text is not in the language"
       meaning["05"] = "the name to be declared is taken"
       meaning["06"] = "a role used is not declared"
-      meaning["07"] = "the past has more than 31 patterns"
+      meaning["07"] = "the past has more than 63 patterns"
       meaning["08"] = "64 roles or 32 rules are held already"
     }
     function next_answer() {

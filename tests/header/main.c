@@ -6,7 +6,7 @@
 #include <stdlib.h>
 #include <string.h>
 
-enum { RECORD = 128, REPLY = 50, MOST = 64, ROOM = MOST * RECORD };
+enum { RECORD = 128, REPLY = 50, MOST = 256, ROOM = MOST * RECORD };
 
 static uint8_t records[ROOM], replies[ROOM], stored[ROOM], numbers[MOST];
 static uint32_t lengths[MOST], sizes[MOST], counts[MOST];
@@ -140,7 +140,7 @@ static uint32_t run(size_t counts_count) {
                             counts, counts_count);
 }
 
-enum { IMAGE = 5 * RECORD, LAST_DIGIT = 4 * RECORD + 17 };
+enum { IMAGE = 5 * RECORD, MARKS = 4 * RECORD };
 
 /* The image of document 01's session after its first act, as document 02 writes it: of the past any*<uv> the marks 1 and 2 are set. */
 static void image_after_uv(uint8_t *image) {
@@ -148,7 +148,7 @@ static void image_after_uv(uint8_t *image) {
     pad(image + RECORD, RECORD, "Lrole uv under lamp");
     pad(image + 2 * RECORD, RECORD, "Lrole expose under top");
     pad(image + 3 * RECORD, RECORD, "Lrule a:any*<uv>;<expose>;hold");
-    pad(image + 4 * RECORD, RECORD, "Ma        00000006");
+    pad(image + MARKS, RECORD, "Ma        0000000000000006");
 }
 
 /* That session up to its first act. */
@@ -160,8 +160,32 @@ static void list_to_uv(void) {
     call("Euv", "C 00 -        uv");
 }
 
+/* Restoring the image of that session with another record of marks. */
+static void restore_marks(const char *marks, int number) {
+    uint8_t changed[IMAGE];
+    image_after_uv(changed);
+    pad(changed + MARKS, RECORD, marks);
+    restore(changed, IMAGE, number);
+}
+
+/* Eight digits are read too: the same image, and it is kept with sixteen. No other number of digits is, nor are small letters, or a mark that the past does
+ * not have; refused, the monitor is as it was. */
+static void list_marks(const uint8_t *image) {
+    restore_marks("Ma        00000001", 0); /* mark 0: no act yet */
+    call("Eexpose", "C 00 -        expose");
+    restore_marks("Ma        00000006", 0);
+    call("Eexpose", "H 01 a");
+    keep(IMAGE, image, IMAGE, 0);
+    static const char *const refused[] = {"Ma        0000006",           "Ma        000000006",          "Ma        000000000000006", "Ma        00000000000000006",
+                                          "Ma        00000000 0000006",  "Ma        00000006 00000000",  "Ma        0000000000000008", "Ma        00000008",
+                                          "Ma        0000000100000006",  "Ma        8000000000000006",   "Ma        000000000000000a", "Ma        0000000e",
+                                          "Ma       0000000000000006",   "Ma        0x00000000000006",   "Ma        ",                 "Mb        00000006"};
+    for (size_t k = 0; k < sizeof refused / sizeof *refused; k++) restore_marks(refused[k], 12);
+    call("Eexpose", "H 01 a");
+}
+
 static void list_images(void) {
-    uint8_t image[IMAGE], changed[IMAGE];
+    uint8_t image[IMAGE];
     image_after_uv(image);
     keep(0, image, 0, 0); /* a fresh monitor has an image of no records */
     list_to_uv();
@@ -179,12 +203,11 @@ static void list_images(void) {
 
     /* Refused, the monitor is as it was: the last act is lamp, and `a` does not hold. */
     call("Elamp", "C 00 -        lamp");
-    memcpy(changed, image, IMAGE);
-    changed[LAST_DIGIT] = '8'; /* mark 3, which the past does not have */
-    restore(changed, IMAGE, 12);
+    restore_marks("Ma        0000000000000008", 12); /* mark 3, which the past does not have */
     restore(image, IMAGE - 1, 12);
     restore(image, IMAGE - RECORD, 12);
     call("Eexpose", "C 00 -        expose");
+    list_marks(image);
 
     restore(image, 0, 0); /* the fresh monitor */
     call("Euv", "R 06 -");
@@ -262,6 +285,9 @@ static int given_images(void) {
     pad(image, RECORD, "L  role lamp  under top");
     if (!taken(5, 0, 5) || !answer_all(0, "")) return fails("a batch of no records is taken");
     if (memcmp(image, expected, sizeof image) != 0) return fails("lines are kept with single spaces, and the rest as lent");
+    pad(image + MARKS, RECORD, "Ma        00000006");
+    if (!taken(5, 0, 5)) return fails("an image with eight digits is taken");
+    if (memcmp(image, expected, sizeof image) != 0) return fails("marks are kept in sixteen digits");
     for (size_t k = 0; k < BATCH; k++) pad(acts + k * RECORD, RECORD, "Eexpose");
     if (!taken(5, BATCH, 5) || !answer_all(BATCH, "H 01 a")) return fails("512 records are taken, and the marks hold each of them");
     if (memcmp(image, expected, sizeof image) != 0) return fails("held acts leave the image");
@@ -283,6 +309,31 @@ static int full_image(void) {
     pad(acts, RECORD, "Er31");
     if (!taken(127, 1, 127) || !answer_all(1, "C 00 -        r31")) return fails("an act is committed over 127 records");
     if (memcmp(image, before, sizeof image) == 0) return fails("an act moves the marks");
+    return 0;
+}
+
+/* A round of n acts of no roles over the image of long_past: each is committed, or else held; and the record of marks that it leaves. */
+static int round_of(size_t n, const char *reply, const char *marks) {
+    uint8_t record[RECORD];
+    for (size_t k = 0; k < n; k++) pad(acts + k * RECORD, RECORD, "E");
+    pad(record, RECORD, marks);
+    return taken(2, n, 2) && answer_all(n, reply) && memcmp(image + RECORD, record, RECORD) == 0;
+}
+
+/* A past of 55 patterns, the most that a line holds: its marks from 32 on stand in the image, and go from round to round. */
+static int long_past(void) {
+    char line[RECORD] = "Lrule a:";
+    for (int k = 0; k < 55; k++) strcat(line, "<>");
+    pad(acts, RECORD, strcat(line, ";<>;hold"));
+    if (!taken(0, 1, 2) || !answer_all(1, "D 00 a")) return fails("a past of 55 patterns is taken");
+    if (!round_of(31, "C 00 -", "Ma        0000000080000000")) return fails("31 acts set mark 31");
+    if (!round_of(1, "C 00 -", "Ma        0000000100000000")) return fails("an act more sets mark 32");
+    if (!round_of(0, "", "Ma        0000000100000000")) return fails("mark 32 stays over a round of no acts");
+    if (!round_of(23, "C 00 -", "Ma        0080000000000000")) return fails("23 acts more set mark 55, the last");
+    if (!round_of(2, "H 01 a", "Ma        0080000000000000")) return fails("the past matches by mark 55, and the rule holds");
+    pad(image + RECORD, RECORD, "Ma        80000000");
+    if (!round_of(24, "C 00 -", "Ma        0080000000000000")) return fails("from mark 31 in eight digits, 24 acts set mark 55");
+    if (!round_of(1, "H 01 a", "Ma        0080000000000000")) return fails("it holds as before");
     return 0;
 }
 
@@ -320,6 +371,11 @@ static int refusals(void) {
         return fails("13 is looked at before 12 and 11");
     if (!refuses(12, SIZE, 4, REC - 1, REP) || !refuses(12, SIZE, 6, REC, REP + 1) || !refuses(12, SIZE, 4, (BATCH + 1) * REC, (BATCH + 1) * REP))
         return fails("12 is looked at before 11");
+    pad(image + MARKS, RECORD, "Ma        0000000100000006");
+    if (!refuses(12, SIZE, 5, REC, REP)) return fails("a mark that the past does not have is 12, also from 32 on");
+    pad(image + MARKS, RECORD, "Ma        000000006");
+    if (!refuses(12, SIZE, 5, REC, REP)) return fails("nine digits are 12");
+    image_after_uv(image);
     if (!taken(5, 1, 6) || !answer_all(1, "D 00 dark")) return fails("after all refusals the image is taken");
     return 0;
 }
@@ -332,7 +388,7 @@ int main(int argc, char **argv) {
     if (session(n) || batch(n) || judge(n) || images()) return 1;
     for (size_t round = 1; round <= n; round++)
         if (rounds(n, round)) return 1;
-    if (given_images() || full_image() || refusals()) return 1;
+    if (given_images() || full_image() || long_past() || refusals()) return 1;
     printf("header: %zu replies by single calls, in a batch and in rounds, 5 questions to the judge, images kept and restored in %zu operations and by "
            "stand_run, no difference\n", n, list.count);
     return 0;
