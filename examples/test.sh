@@ -72,6 +72,11 @@ in_parts() {
   kept_after "$session"
 }
 
+# eight_digits IMAGE: of an image whose marks are below 32, the records of marks are rewritten with eight digits.
+eight_digits() {
+  sed -i 's/^\(M.\{9\}\)0\{8\}\([0-9A-F]\{8\}\)/\1\2        /' "$1"
+}
+
 # host_says IMAGE SESSION OUTPUT WORDS: host ends with 1 and these words, and the image file stays.
 host_says() {
   cp "$1" "$work/before"
@@ -83,7 +88,7 @@ host_says() {
 for program in "$batches" "$snapshots"; do
   answers "$program" "$sample" crates/session/stdout
   # Several batches, the last of them smaller; none; a single call after a batch.
-  for name in long-00 long-01 empty short-last-record last-1-byte; do
+  for name in long-00 long-01 empty short-last-record last-1-byte 35-patterns 55-patterns stars-above-31; do
     answers "$program" "$stored/$name.rec" "$stored/$name.out"
   done
 done
@@ -102,6 +107,30 @@ in_parts "$sample" crates/session/stdout 1 2 3 4 5 6 7
 for name in long-00 long-01; do
   for cut in 1 511 512 513 1000 1024; do in_parts "$stored/$name.rec" "$stored/$name.out" "$cut"; done
   in_parts "$stored/$name.rec" "$stored/$name.out" 1 2 513 1025 1999
+done
+# Record by record, so that every mark that these sessions reach, also from 32 on, goes through the image file.
+for name in 35-patterns 55-patterns stars-above-31; do
+  in_parts "$stored/$name.rec" "$stored/$name.out" $(seq 1 $(($(length "$stored/$name.rec") - 1)))
+done
+
+# An image file whose marks have eight digits, as they had once, is taken up; the image is rewritten with sixteen.
+for cut in 4 5 6 7; do
+  rm -f "$image"
+  part "$sample" 0 "$cut" > "$work/part.rec"
+  "$host" "$image" "$work/part.rec" > "$work/answers"
+  cp "$image" "$work/before"
+  eight_digits "$image"
+  if [ "$(stat -c %s "$image")" != $((5 * 128)) ] || cmp -s "$image" "$work/before"; then
+    echo "the image file was not rewritten with eight digits" >&2
+    exit 1
+  fi
+  "$host" "$image" "$stored/empty.rec"
+  cmp "$image" "$work/before"
+  eight_digits "$image"
+  part "$sample" "$cut" 8 > "$work/part.rec"
+  "$host" "$image" "$work/part.rec" >> "$work/answers"
+  cmp "$work/answers" crates/session/stdout
+  kept_after "$sample"
 done
 
 # Broken off from without: the file for the replies has room for those of one batch, so the system ends host before the second batch is in the image. The image
@@ -182,5 +211,5 @@ for number in 0 2 18446744073709551617; do
 done
 printf 'keep\n%0128d\n' 0 > "$work/sheet"
 says /dev/null "snapshots: line 2 has more than 127 bytes" "$snapshots" "$work/sheet"
-echo "batches and snapshots answer six sessions as stored, and snapshots keeps and restores in two sheets; host answers three sessions as stored, whole," \
-  "broken off and taken up again; refusals and errors are said in words"
+echo "batches and snapshots answer nine sessions as stored, and snapshots keeps and restores in two sheets; host answers six sessions as stored, whole or" \
+  "broken off and taken up again, and takes up images with eight digits; refusals and errors are said in words"
