@@ -5,8 +5,8 @@
 // with `=` is handed over without the `=` and as it stands, with no spaces and no newline; `=` alone is the empty slice. The file has at most
 // 65,536 bytes.
 //
-// The names held are top, lamp, uv and expose, whatever lines came before. So refusals 2, 3, 4, 6 and 7 of document 01 are told, in that
-// order, and 5 and 8, which need a monitor, are not.
+// The names held are top, lamp, uv and expose, whatever lines came before. So refusals 2, 3, 4 and 6 of document 01 are told, in that order,
+// and 5 and 8, which need a monitor, are not. 7 would be told after 6, but no line has room for so many patterns.
 #![tactic(auto)]
 
 pub mod cases;
