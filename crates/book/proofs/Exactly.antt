@@ -111,15 +111,15 @@ module _ (b : Book) (c : Call) where
   unfolding answer
   seven_never = go (book_decides b c) (decided b.roles (book_duties b) c)
     where
-      asked : (a : Asked) → asks.RecordRow b.roles (duty_names (book_duties b)) c.bytes a → (answer (granted b.roles (book_duties b) a) c.buffer).number ≡ 7 → ⊥
-      asked (refused_by n) r q = no_row_7 b.roles (duty_names (book_duties b)) c.bytes (subst (λ (k : ℕ). asks.RecordRow b.roles (duty_names (book_duties b)) c.bytes (refused_by k)) q r)
-      asked (asks_role n p) r q = omega arith
-      asked (asks_rule x) r q = omega arith
-      asked (asks_event e) r q = omega arith
+      of_record : (a : Asked) → asks.RecordRow b.roles (duty_names (book_duties b)) c.bytes a → (answer (granted b.roles (book_duties b) a) c.buffer).number ≡ 7 → ⊥
+      of_record (refused_by n) r q = no_row_7 b.roles (duty_names (book_duties b)) c.bytes (subst (λ (k : ℕ). asks.RecordRow b.roles (duty_names (book_duties b)) c.bytes (refused_by k)) q r)
+      of_record (asks_role n p) r q = omega arith
+      of_record (asks_rule x) r q = omega arith
+      of_record (asks_event e) r q = omega arith
 
       go : (d : Decision) → CallRow b.roles (book_duties b) c d → (answer d c.buffer).number ≡ 7 → ⊥
       go d (row_1 h) q = omega arith
-      go d (rows_on {a = a} l r) q = asked a r q
+      go d (rows_on {a = a} l r) q = of_record a r q
 
   -- So a rule line is taken whatever its past, where its names and a free place allow it.
   pub every_past_taken : (n : Name) (p : Past) (t : Pattern) (x : Response) → Lends c → SaysLine c.bytes (rule n p t x) → asks.Free b.roles (duty_names (book_duties b)) n

@@ -9,13 +9,13 @@ use Rattle.lexer.specs.Tokens.{Token, word, mark, other}
 use Rattle.lexer.specs.Render.{render, render_from}
 use Rattle.lexer.proofs.WordLaws.{Formed}
 use Rattle.lexer.proofs.RenderLaws.{tokens-render}
-use Rattle.grammar.specs.AsRead.{Items, close, star_close, item, Simple, any_event, items, Pattern, plain, bracketed, Past, only, either, Sequence, single, beside, Factor, starred, Base, pattern, nothing, group, Response, pass, hold, send, anew, rule}
+use Rattle.grammar.specs.AsRead.{Items, close, star_close, item, Simple, any_event, items, Pattern, plain, bracketed, Past, only, either, Sequence, single, beside, Factor, starred, Base, pattern, nothing, group, Response, pass, hold, send, anew, Line, rule}
 use Rattle.grammar.specs.Spell.{spell_item, spell_items, spell_simple, spell_condition, spell_pattern, spell_stars, spell_past, spell_sequence, spell_factor, spell_base, spell_response, spell_tail, spell_line}
 use Rattle.grammar.specs.Size.{size_past, size_sequence, size_factor, size_base}
 use Rattle.grammar.specs.Valid.{ValidItems, ValidSimple, ValidPattern, ValidPast, ValidSequence, ValidResponse, ValidLine}
 use Rattle.grammar.specs.Lines.{Says}
 use Rattle.grammar.specs.LineText.{line_text}
-use Rattle.grammar.specs.LongestPast.{longest_past, shortest, in_a_row, row_past, row_line}
+use Rattle.grammar.specs.LongestPast.{longest_past}
 use Rattle.grammar.proofs.RenderedLines.{says_formed, rendered_short}
 
 -- BYTES
@@ -129,7 +129,22 @@ past_room s w p t x few h =
 
 -- THE LONGEST
 
--- a row of `<>`
+-- the shortest pattern, `<>`
+abbrev shortest : Pattern
+shortest = plain (items close)
+
+-- n of it side by side, and one more
+abbrev in_a_row : ℕ → Sequence
+in_a_row zero = single (starred (pattern shortest) 0)
+in_a_row (suc n) = beside (starred (pattern shortest) 0) (in_a_row n)
+
+-- `rule a:<><> .. <>;<>;hold`, n + 1 patterns in its past
+abbrev row_past : ℕ → Past
+row_past n = only (in_a_row n)
+
+abbrev row_line : ℕ → Line
+row_line n = rule (97 ∷ []) (row_past n) shortest hold
+
 row_valid : (n : ℕ) → ValidSequence (in_a_row n)
 unfolding ValidPast ValidPattern ValidSimple ValidItems
 row_valid zero = tt
