@@ -20,7 +20,7 @@ use work::End;
 use crate::session::{Answers, Session, RECORD, REPLY};
 
 const MOST_RULES: usize = 32;
-const MOST_PATTERNS: usize = 31;
+const MOST_PATTERNS: usize = 63;
 
 /// `held[i]` is the positions of rule i.
 pub struct Monitor {

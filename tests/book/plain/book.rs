@@ -16,7 +16,11 @@ pub const RECORD: usize = 128;
 
 const MOST_ROLES: usize = 64;
 const MOST_RULES: usize = 32;
-const MOST_PATTERNS: usize = 31;
+
+/// Document 02, C-15: "Marks grow from 32 to 64 bits, so that 63 patterns fit beside
+/// mark 0." Row 7 is for a past of more. That no line of 126 bytes has so many isn't
+/// said here: the row is looked at all the same.
+const MOST_PATTERNS: usize = 63;
 
 #[derive(Clone)]
 pub struct Book {

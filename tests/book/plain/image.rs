@@ -45,12 +45,21 @@ pub fn line_record<T: AsRef<[u8]>>(tokens: &[T]) -> Vec<u8> {
     padded(b'L', &written(tokens))
 }
 
-/// The name in eight columns, a space, and the marks as eight capital
-/// hexadecimal digits, the highest marks first: bit k is mark k.
+/// Document 02, C-15: "keeping writes sixteen".
+pub const DIGITS: usize = 16;
+
+/// The record of marks that keeping writes.
 pub fn mark_record(name: &[u8], marks: &Marks) -> Vec<u8> {
+    mark_record_of(name, marks, DIGITS)
+}
+
+/// The name in eight columns, a space, and the marks as so many capital
+/// hexadecimal digits, the highest marks first: bit k is mark k. Marks for which
+/// there is no digit are not written.
+pub fn mark_record_of(name: &[u8], marks: &Marks, digits: usize) -> Vec<u8> {
     let mut text = name.to_vec();
     text.resize(9, b' ');
-    for digit in (0..8).rev() {
+    for digit in (0..digits).rev() {
         let value: usize = (0..4)
             .filter(|bit| marks.contains(&(4 * digit + bit)))
             .map(|bit| 1 << bit)

@@ -1,7 +1,7 @@
 //! Which bytes are an image, and the book that an image gives.
 
 use super::book::{Book, RECORD};
-use super::image::mark_record;
+use super::image::{mark_record_of, DIGITS};
 use super::marks::Marks;
 use super::reply;
 use super::rule::Rule;
@@ -48,21 +48,31 @@ fn given(records: &[&[u8]], rules: &[Rule]) -> Option<Vec<Marks>> {
     pairs.map(|(record, rule)| read(record, rule)).collect()
 }
 
-/// The marks of a record that is, byte for byte, the one that keeping would
-/// write for this rule with these marks, each of them a mark that its past has.
+/// Document 02, C-15: "any `M` record with eight is still read, its higher marks
+/// clear".
+pub const OLD_DIGITS: usize = 8;
+
+/// The marks of a record with sixteen digits or with eight. No record has both forms:
+/// behind eight digits spaces stand where the other eight would.
 fn read(record: &[u8], rule: &Rule) -> Option<Marks> {
-    let marks = digits(&record[10..18])?;
+    read_digits(record, rule, DIGITS).or_else(|| read_digits(record, rule, OLD_DIGITS))
+}
+
+/// The marks of a record that is, byte for byte, the one of this rule with these marks
+/// in so many digits, each of them a mark that its past has.
+fn read_digits(record: &[u8], rule: &Rule, count: usize) -> Option<Marks> {
+    let marks = digits(&record[10..10 + count])?;
     let most = patterns(&rule.line.past);
     let had = marks.iter().all(|&mark| mark <= most);
-    if had && record == mark_record(&rule.line.name, &marks) {
+    if had && record == mark_record_of(&rule.line.name, &marks, count) {
         Some(marks)
     } else {
         None
     }
 }
 
-/// Eight digits, small letters too: which of them are as they should be shows
-/// when they are written again.
+/// The marks that digits stand for, small letters too: which of them are as they
+/// should be shows when they are written again.
 fn digits(bytes: &[u8]) -> Option<Marks> {
     let mut marks = Marks::new();
     for (place, &byte) in bytes.iter().rev().enumerate() {
