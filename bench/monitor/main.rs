@@ -5,15 +5,15 @@
 
 mod clock;
 mod fast;
-// The judge is not measured.
-#[allow(dead_code)]
-#[path = "../../tests/calls/stand.rs"]
-mod stand;
 mod layout;
 mod measure;
 mod proved;
 mod session;
 mod sheets;
+// The judge is not measured.
+#[allow(dead_code)]
+#[path = "../../tests/calls/stand.rs"]
+mod stand;
 mod table;
 
 use measure::{same, Case};
@@ -80,6 +80,7 @@ fn all() {
     acts("light, an act held", "held", 0, 10_000);
     acts("light, an act sent on", "sent", 0, 10_000);
     acts("heavy, an act", "heavy", 200, 1_000);
+    acts("long, an act", "long", 200, 1_000);
     acts("worst, an act", "worst", 0, 2);
     acts("light, after 1,000 acts", "light", 1_000, 2_000);
     acts("light, after 10,000 acts", "light", 10_000, 10_000);
@@ -87,8 +88,10 @@ fn all() {
     acts("light, after 1,000,000 acts", "light", 1_000_000, 250_000);
     rules("light, a rule line", "light");
     rules("heavy, a rule line", "heavy");
+    rules("long, a rule line", "long");
     state("light, the state", "light");
     state("heavy, the state", "heavy");
+    state("long, the state", "long");
 }
 
 /// One run of the proved monitor alone.

@@ -1,7 +1,7 @@
 //! The proved monitor, through its static library (`include/stand.h`).
 
-use crate::stand;
 use crate::session::{Answers, Session};
+use crate::stand;
 
 /// The first `calls` calls of a session, from a fresh monitor.
 pub fn run(session: &Session, calls: usize, answers: &mut Answers) {

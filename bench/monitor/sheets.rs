@@ -65,8 +65,9 @@ pub fn offer(name: &str) -> Offer {
         // the rule `dim` sends each on as `uv low`, and that is committed
         "sent" => (light(), &["uv"], "C 01"),
         "heavy" => (heavy(), &HEAVY_ACTS, "C 00"),
+        "long" => (long(), &LONG_ACTS, "C 00"),
         "worst" => (worst(), &["c61 c61 c61 c61"], "T 64"),
-        _ => panic!("no sheet {name}: bare, light, held, sent, heavy, worst"),
+        _ => panic!("no sheet {name}: bare, light, held, sent, heavy, long, worst"),
     };
     Offer { sheet, acts, reply }
 }
@@ -93,6 +94,25 @@ fn heavy() -> Sheet {
 
 /// One role each, each letter in turn in an order that is not the alphabet's.
 const HEAVY_ACTS: [&str; 11] = ["a", "c", "b", "e", "h", "d", "d", "g", "f", "a", "b"];
+
+/// 32 rules of 51 patterns, which their lines just have room for: 48 times `<>` in three runs, `any*` before each, at other places in each rule. An act of no
+/// roles moves every position on; one with a role leaves those of `any*` alone, of which two stand beyond the first run. The trigger, `<z>`, is never met.
+fn long() -> Sheet {
+    let mut lines = vec![role("a", "top"), role("z", "top")];
+    for i in 0..32 {
+        let (first, second) = (13 + i % 5, 13 + i / 5 % 5);
+        let runs = [first, second, 48 - first - second];
+        let past: String = runs.map(|run| format!("any*{}", "<>".repeat(run))).concat();
+        let name = format!("{}{}", ['r', 's', 't', 'u'][i / 10], i % 10);
+        lines.push(format!("Lrule {name}:{past};<z>;hold"));
+    }
+    lines
+}
+
+/// As many acts of no roles as a run has patterns, and more; then one that ends it.
+const LONG_ACTS: [&str; 24] = [
+    "", "", "", "", "", "", "", "", "", "", "", "", "", "", "", "", "", "", "", "", "", "", "", "a",
+];
 
 /// The costliest act known: 64 responses worked, each `anew`, so that each looks up a chain over 31 triggers of 32 items, and each item is answered no
 /// after some 60 steps from child to parent. It ends too long, T 64.

@@ -12,8 +12,8 @@ mod probe;
 mod random;
 mod tree;
 
-use random::Random;
 use probe::{Event, NAMES};
+use random::Random;
 use tree::Past;
 
 const PASTS: usize = 30_000;

@@ -54,7 +54,7 @@ impl Automaton {
         }
     }
 
-    /// One more pattern. Two bytes of text make a pattern at the least, so that there are never more than 63.
+    /// One more pattern. Two bytes of text make a pattern at the least, and a line has seven before its past, so that there are never more than 59.
     pub fn pattern(&mut self, pattern: Pattern) -> Part {
         if self.follow.is_empty() {
             self.follow.push(0);

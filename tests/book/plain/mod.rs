@@ -1,6 +1,6 @@
 //! The plain book, written from the documents alone: 01, and 02 for places to
-//! return to and marks of 64 bits. It knows nothing of the monitor; every program that compares the
-//! two shares this folder.
+//! return to and marks of 64 bits. It knows nothing of the monitor; every program
+//! that compares the two shares this folder.
 
 // Each program uses its own part of the book.
 #![allow(dead_code)]
