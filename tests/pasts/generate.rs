@@ -170,9 +170,9 @@ fn meeting(random: &mut Random, pattern: &Pattern) -> Event {
     event(random)
 }
 
-/// Events that the past matches, or nearly so, added to a list of at most 12.
-fn matching(random: &mut Random, past: &Past, to: &mut Vec<Event>) {
-    if to.len() >= 12 {
+/// Events that the past matches, or nearly so, added to a list of at most so many.
+fn matching(random: &mut Random, past: &Past, most: usize, to: &mut Vec<Event>) {
+    if to.len() >= most {
         return;
     }
     match past {
@@ -183,20 +183,37 @@ fn matching(random: &mut Random, past: &Past, to: &mut Vec<Event>) {
         Past::Empty => {}
         Past::Sequence(parts) => {
             for part in parts {
-                matching(random, part, to);
+                matching(random, part, most, to);
             }
         }
         Past::Either(sides) => {
             let side = &sides[random.below(sides.len())];
-            matching(random, side, to);
+            matching(random, side, most, to);
         }
         Past::Star(inner) => {
             let turns = random.below(4);
             for _ in 0..turns {
-                matching(random, inner, to);
+                matching(random, inner, most, to);
             }
         }
-        Past::Bracketed(inner) => matching(random, inner, to),
+        Past::Bracketed(inner) => matching(random, inner, most, to),
+    }
+}
+
+/// An event more, less or other, or two exchanged.
+fn changed(random: &mut Random, list: &mut Vec<Event>) {
+    let e = event(random);
+    let at = random.below(list.len() + 1);
+    match random.below(4) {
+        0 if at < list.len() => {
+            list.remove(at);
+        }
+        1 if at < list.len() => list[at] = e,
+        2 if at < list.len() => {
+            let other = random.below(list.len());
+            list.swap(at, other);
+        }
+        _ => list.insert(at, e),
     }
 }
 
@@ -207,25 +224,27 @@ pub fn events(random: &mut Random, past: &Past) -> Vec<Event> {
         let n = random.below(13);
         return (0..n).map(|_| event(random)).collect();
     }
-    matching(random, past, &mut list);
+    matching(random, past, 12, &mut list);
     if random.chance(50) {
         let changes = 1 + random.below(2);
         for _ in 0..changes {
-            let e = event(random);
-            let at = random.below(list.len() + 1);
-            match random.below(4) {
-                0 if at < list.len() => {
-                    list.remove(at);
-                }
-                1 if at < list.len() => list[at] = e,
-                2 if at < list.len() => {
-                    let other = random.below(list.len());
-                    list.swap(at, other);
-                }
-                _ => list.insert(at, e),
-            }
+            changed(random, &mut list);
         }
     }
     list.truncate(12);
+    list
+}
+
+/// A list of at most 60 events for a long past: as many as lead through it or to some place in it, three in ten of them with a change.
+pub fn long_events(random: &mut Random, past: &Past) -> Vec<Event> {
+    let mut list = Vec::new();
+    matching(random, past, 60, &mut list);
+    if random.chance(30) {
+        changed(random, &mut list);
+    }
+    if random.chance(50) {
+        list.truncate(random.below(list.len() + 1));
+    }
+    list.truncate(60);
     list
 }

@@ -3,7 +3,10 @@
 //!
 //! `pasts [SEED]`; the seed is printed, and the same seed gives the same run. Exit status 1 at the first difference.
 
+mod counts;
+mod fixed;
 mod generate;
+mod long;
 mod model;
 mod probe;
 // Its other choices serve the random sessions.
@@ -12,6 +15,7 @@ mod probe;
 mod random;
 mod tree;
 
+use counts::Counts;
 use probe::{Event, NAMES};
 use random::Random;
 use tree::Past;
@@ -20,22 +24,6 @@ const PASTS: usize = 30_000;
 const LISTS: usize = 4;
 /// What no answer is: a byte of `out` that a call did not write.
 const UNWRITTEN: u8 = 9;
-
-#[derive(Default)]
-struct Counts {
-    pasts: usize,
-    over_empty: usize,
-    nested: usize,
-    full: usize,
-    beyond: usize,
-    pairs: usize,
-    matched: usize,
-    full_matched: usize,
-    prefixes: usize,
-    prefixes_matched: usize,
-    positions: usize,
-    upper: usize,
-}
 
 fn shown(events: &[Event]) -> String {
     let texts: Vec<String> = events
@@ -48,9 +36,14 @@ fn shown(events: &[Event]) -> String {
     texts.join(", ")
 }
 
-/// Whether a past uses the upper positions too.
+/// Whether a past uses the upper positions of 32 too.
 fn is_full(past: &Past) -> bool {
-    tree::patterns(past) >= 20
+    (20..long::LEAST).contains(&tree::patterns(past))
+}
+
+/// Whether a past has more patterns than there were marks for once.
+fn is_long(past: &Past) -> bool {
+    tree::patterns(past) >= long::LEAST
 }
 
 fn has_star(past: &Past) -> bool {
@@ -120,94 +113,49 @@ fn compare(seed: u64, text: &str, past: &Past, events: &[Event], counts: &mut Co
         fail(seed, text, events, &what);
     }
     counts.positions += marks.count_ones() as usize;
-    counts.upper += (marks >> 20).count_ones() as usize;
+    counts.upper += (marks >> 20 & 0xfff).count_ones() as usize;
+    counts.high += (marks >> long::LEAST).count_ones() as usize;
+    counts.highest += (marks >> long::MOST & 1) as usize;
     counts.pairs += 1;
+    counts.long_pairs += is_long(past) as usize;
     counts.matched += right[events.len()] as usize;
     counts.full_matched += (right[events.len()] && is_full(past)) as usize;
+    counts.long_matched += (right[events.len()] && is_long(past)) as usize;
     counts.prefixes += right.len();
 }
 
-/// A past with its text; those with too many patterns are only held to refusal 7.
-fn next(seed: u64, random: &mut Random, counts: &mut Counts) -> (Past, String) {
+/// A past with its text.
+fn next(random: &mut Random) -> (Past, String) {
     loop {
-        let short = random.chance(30);
-        let size = if short {
-            4 + random.below(31)
-        } else {
-            1 + random.below(8)
+        let past = match random.below(100) {
+            0..=14 => {
+                let size = long::LEAST + random.below(long::MOST - long::LEAST + 1);
+                long::past(random, size)
+            }
+            15..=39 => {
+                let size = 4 + random.below(28);
+                generate::past(random, size, true)
+            }
+            _ => {
+                let size = 1 + random.below(8);
+                generate::past(random, size, false)
+            }
         };
-        let past = generate::past(random, size, short);
-        let text = match generate::line(random, &past) {
-            Some(text) => text,
-            None => continue,
-        };
-        if tree::patterns(&past) <= 31 {
+        // A past that all but fills the line has room for few endings.
+        let text = (0..20).find_map(|_| generate::line(random, &past));
+        if let Some(text) = text {
             return (past, text);
         }
-        let mut out = [UNWRITTEN; 2];
-        let number = probe::past(text.as_bytes(), &[0], &mut out);
-        if number != 7 || out != [UNWRITTEN; 2] {
-            fail(
-                seed,
-                &text,
-                &[],
-                &format!("more than 31 patterns: {}, {:?}", number, out),
-            );
-        }
-        counts.beyond += 1;
     }
 }
 
-/// What the calls say of texts that are refused, and of events that end early.
-fn fixed(seed: u64) {
-    let many = format!("rule r:{};any;hold", "<>".repeat(32));
-    let long = format!("rule r:{};any;hold", " ".repeat(126));
-    let texts: [(&str, u32); 12] = [
-        ("", 4),
-        ("rule r:;any;hold", 4),
-        ("rule r:any**)(;any;hold", 4),
-        ("role z under top", 4),
-        ("rule r:<a b c d e>;any;hold", 4),
-        ("rule any:any;any;hold", 4),
-        (&long, 4),
-        ("rule a:<z>;any;hold", 5),
-        ("rule r:<z>;any;hold", 6),
-        ("rule r:any;<+z>;hold", 6),
-        ("rule r:any;any;send <r>", 6),
-        (&many, 7),
-    ];
-    for (text, right) in texts {
-        let mut out = [UNWRITTEN; 4];
-        let number = probe::past(text.as_bytes(), &[0, 0], &mut out);
-        if number != right || out != [UNWRITTEN; 4] {
-            fail(
-                seed,
-                text,
-                &[],
-                &format!("{}, {:?}, and should be {}", number, out, right),
-            );
-        }
-    }
-    let lists: [(&[u8], [u8; 4]); 6] = [
-        (&[], [1, 9, 9, 9]),
-        (&[0], [1, 1, 9, 9]),
-        (&[0, 5, 0], [1, 1, 9, 9]),
-        (&[1, 7, 1, 8, 0], [1, 1, 9, 9]),
-        (&[0, 0, 4, 1, 2, 3], [1, 1, 1, 9]),
-        (&[0, 0, 0, 0, 0], [1, 1, 1, 1]),
-    ];
-    for (bytes, right) in lists {
-        let mut out = [UNWRITTEN; 4];
-        let number = probe::past(b"rule r:any*;any;hold", bytes, &mut out);
-        if number != 0 || out != right {
-            fail(
-                seed,
-                "rule r:any*;any;hold",
-                &[],
-                &format!("{:?}: {:?}", bytes, out),
-            );
-        }
-    }
+fn count(past: &Past, counts: &mut Counts) {
+    counts.pasts += 1;
+    counts.over_empty += star_over_empty(past, false) as usize;
+    counts.nested += star_over_empty(past, true) as usize;
+    counts.full += is_full(past) as usize;
+    counts.long += is_long(past) as usize;
+    counts.most += (tree::patterns(past) == long::MOST) as usize;
 }
 
 fn main() {
@@ -216,64 +164,25 @@ fn main() {
         None => 20_051_115,
     };
     println!("pasts: seed {}", seed);
-    fixed(seed);
+    fixed::fixed(seed);
     let mut random = Random::new(seed);
     let mut counts = Counts::default();
     for _ in 0..PASTS {
-        let (past, text) = next(seed, &mut random, &mut counts);
-        counts.pasts += 1;
-        counts.over_empty += star_over_empty(&past, false) as usize;
-        counts.nested += star_over_empty(&past, true) as usize;
-        counts.full += is_full(&past) as usize;
+        let (past, text) = next(&mut random);
+        count(&past, &mut counts);
         for _ in 0..LISTS {
-            let events = generate::events(&mut random, &past);
+            let events = match is_long(&past) {
+                true => generate::long_events(&mut random, &past),
+                false => generate::events(&mut random, &past),
+            };
             compare(seed, &text, &past, &events, &mut counts);
         }
     }
-    let c = counts;
-    println!("  pasts                                     {:>9}", c.pasts);
-    println!("    with 20 to 31 patterns                  {:>9}", c.full);
-    println!(
-        "    with a star over a part that can be empty {:>7}",
-        c.over_empty
-    );
-    println!(
-        "    with nested stars over such a part      {:>9}",
-        c.nested
-    );
-    println!(
-        "  pasts of 32 patterns or more, refused by 7 {:>8}",
-        c.beyond
-    );
-    println!("  pairs of a past and a list of events      {:>9}", c.pairs);
-    println!(
-        "    matched                                 {:>9}",
-        c.matched
-    );
-    println!(
-        "    matched, with 20 to 31 patterns         {:>9}",
-        c.full_matched
-    );
-    println!(
-        "    not matched                             {:>9}",
-        c.pairs - c.matched
-    );
-    println!(
-        "  prefixes compared                         {:>9}",
-        c.prefixes
-    );
-    println!(
-        "    matched                                 {:>9}",
-        c.prefixes_matched
-    );
-    println!(
-        "    not matched                             {:>9}",
-        c.prefixes - c.prefixes_matched
-    );
-    println!(
-        "  positions held at the end, all the same   {:>9}",
-        c.positions
-    );
-    println!("    of which 20 to 31                       {:>9}", c.upper);
+    counts.print();
+    let missing = counts.missing();
+    if !missing.is_empty() {
+        println!("pasts: never seen: {}", missing.join("; "));
+        std::process::exit(1);
+    }
     println!("pasts: no difference");
 }
