@@ -11,8 +11,8 @@ use crate::plain::tree::{Act, Condition, Item, Name, Past, Simple};
 use crate::random::Random;
 use crate::spell::Tokens;
 
-/// Lists made from a past end soon after so many acts: enough for 31 patterns in a row.
-const MOST: usize = 36;
+/// Lists made from a past end soon after so many acts: enough for 55 patterns in a row.
+const MOST: usize = 60;
 
 /// The roles held are always more than none: top is one of them.
 fn role(random: &mut Random, roles: &Roles) -> Name {

@@ -26,7 +26,15 @@ pub fn compare(number: usize, stage: &mut Stage, tally: &mut Tally) -> Result<()
     compare_misfit(stage, session::flat(&stage.calls), tally)?;
     compare_operations(number, stage, tally)?;
     compare_image_sessions(number, stage, tally)?;
-    compare_runs(number, stage, tally)
+    compare_runs(number, stage, tally)?;
+    // What the book and the library agree on may still be what can't be.
+    match tally.forbidden() {
+        Some(what) => Err((
+            format!("seen, and it can't be: {what}"),
+            file::calls_text(&stage.calls),
+        )),
+        None => Ok(()),
+    }
 }
 
 fn compare_calls(stage: &Stage, tally: &mut Tally) -> Result<(), Failed> {

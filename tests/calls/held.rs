@@ -5,6 +5,8 @@ use crate::acts::{self, named};
 use crate::language;
 use crate::plain::book::Book;
 use crate::plain::reply;
+use crate::plain::rule::Rule;
+use crate::plain::survey::patterns;
 use crate::random::Random;
 use crate::session::Call;
 use crate::spell::{record, text, tokens, Tokens};
@@ -40,6 +42,17 @@ pub fn acts(random: &mut Random, book: &Book) -> Vec<Call> {
         return Vec::new();
     }
     let rule = random.pick(book.rules());
+    onward(random, book, rule)
+}
+
+/// Acts that may lead the rule of the longest past to work.
+pub fn long_acts(random: &mut Random, book: &Book) -> Vec<Call> {
+    let longest = |rule: &&Rule| patterns(&rule.line.past);
+    let rule = book.rules().iter().max_by_key(longest);
+    rule.map_or(Vec::new(), |rule| onward(random, book, rule))
+}
+
+fn onward(random: &mut Random, book: &Book, rule: &Rule) -> Vec<Call> {
     let marks = rule.marks(book.list(), book.roles());
     let acts = acts::onward(random, book.roles(), rule, &marks);
     let calls = acts.iter().map(named);

@@ -71,9 +71,11 @@ impl ImageSession {
 
     /// Keeping, restoring or a line, and mostly acts for the rules then held.
     fn image_step(&mut self) {
-        match self.random.below(10) {
-            0..=3 => self.keep(),
-            4..=8 => self.restore(),
+        match self.random.below(20) {
+            0..=7 => self.keep(),
+            8..=16 => self.restore(),
+            17 if !self.own_only => self.go_on_long(),
+            17 => self.restore(),
             _ => self.declare(),
         }
         for _ in 0..self.random.below(3) {

@@ -1,5 +1,6 @@
 //! Keeping and restoring in a session: buffers to keep into, and images to restore.
 
+use crate::held;
 use crate::image_session::ImageSession;
 use crate::images;
 use crate::keeping::{Keep, Restore, MOST};
@@ -46,11 +47,47 @@ impl ImageSession {
         self.step(Operation::Restore(Restore { image, lent }));
     }
 
+    /// An image with marks of a long past, acts that lead it on, and the image there;
+    /// then maybe back to it in eight digits, which have half of the marks.
+    pub fn go_on_long(&mut self) {
+        let base = images::elsewhere(&mut self.random);
+        let image = images::with_long_marks(&mut self.random, &base);
+        self.restore_to(image);
+        let acts = held::long_acts(&mut self.random, self.book.now());
+        let most = self.random.between(1, 40);
+        for call in acts.into_iter().take(most) {
+            self.step(Operation::Call(call));
+        }
+        let image = self.keep_now();
+        if self.random.chance(60) {
+            let image = images::in_eight_digits(&mut self.random, &image);
+            self.restore_to(image);
+        }
+    }
+
+    fn restore_to(&mut self, image: Vec<u8>) {
+        let lent = Vec::new();
+        self.step(Operation::Restore(Restore { image, lent }));
+    }
+
+    /// The image is written into a buffer as long, and handed back.
+    fn keep_now(&mut self) -> Vec<u8> {
+        let image = image(self.book.now());
+        let lent = self.random.bytes(image.len());
+        let records = Vec::new();
+        self.step(Operation::Keep(Keep { records, lent }));
+        image
+    }
+
     /// The image to return to.
     fn chosen(&mut self) -> Vec<u8> {
-        let image = match self.random.below(10) {
+        let image = match self.random.below(11) {
             0..=2 => self.own(),
             3 => images::elsewhere(&mut self.random),
+            5 => {
+                let own = self.own();
+                images::in_eight_digits(&mut self.random, &own)
+            }
             4 if self.random.chance(30) => Vec::new(),
             _ => self.changed(),
         };
@@ -65,11 +102,7 @@ impl ImageSession {
         if !self.book.kept().is_empty() {
             return images::own(&mut self.random, &self.book);
         }
-        let image = image(self.book.now());
-        let lent = self.random.bytes(image.len());
-        let records = Vec::new();
-        self.step(Operation::Keep(Keep { records, lent }));
-        image
+        self.keep_now()
     }
 
     /// Some image changed in the way whose turn it is.

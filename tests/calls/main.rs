@@ -24,6 +24,7 @@ mod language;
 mod misfit;
 mod near;
 mod operations;
+mod packed;
 #[path = "../book/plain/mod.rs"]
 mod plain;
 mod random;

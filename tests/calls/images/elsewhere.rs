@@ -1,8 +1,12 @@
 //! Images of other sessions.
 
+use crate::packed;
 use crate::plain::image::image;
 use crate::random::Random;
 use crate::stage::Stage;
+
+/// Patterns of three bytes that acts of any roles meet.
+const THREES: [&str; 1] = ["<*>"];
 
 /// The image of another session.
 pub fn elsewhere(random: &mut Random) -> Vec<u8> {
@@ -18,9 +22,8 @@ pub fn small(random: &mut Random) -> Stage {
     // A rule of some patterns, whose marks can be any of many.
     let past = "(<top>*+any)<>[not <top top>]*any";
     rule(&mut stage, "zz-far", past, "<+top *>");
-    if stage.random.chance(40) {
-        let past = longest(&mut stage.random);
-        rule(&mut stage, "zz-31", &past, "<*>");
+    if stage.random.chance(80) {
+        long_rule(&mut stage);
     }
     for _ in 0..stage.random.between(0, 4) {
         stage.rule();
@@ -39,8 +42,17 @@ fn rule(stage: &mut Stage, name: &str, past: &str, trigger: &str) {
     stage.line(&format!("rule {name}:{past};{trigger};{response}"));
 }
 
-/// A past of 31 patterns, so that every mark there is may be set.
-fn longest(random: &mut Random) -> String {
-    let patterns = (0..31).map(|_| *random.pick(&["<>", "<*>", "<>", "<*>", "<>*"]));
-    patterns.collect()
+/// A rule of so many patterns that marks above 31 may be set, or all those below 32.
+fn long_rule(stage: &mut Stage) {
+    let size = *stage.random.pick(&[31, 31, 32, 33, 35, 40, 44, 47]);
+    if stage.random.chance(50) {
+        let any = stage.random.between(48, packed::MOST);
+        let size = *stage.random.pick(&[packed::MOST, packed::MOST, any]);
+        let line = packed::rule(&mut stage.random, "zl", size, &THREES);
+        return stage.line(&line);
+    }
+    // The line has as much room as two responses of ten bytes leave it.
+    let room = 126 - "rule zl:;<*>;send <top>".len() - 2 * size;
+    let past = packed::past(&mut stage.random, size, room, &THREES);
+    rule(stage, "zl", &past, "<*>");
 }

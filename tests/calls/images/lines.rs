@@ -74,11 +74,6 @@ pub fn refused_6(random: &mut Random, records: &mut Records) {
     }
 }
 
-pub fn refused_7(_: &mut Random, records: &mut Records) {
-    let past = "<>".repeat(32);
-    add(records, &format!("rule zz-more:{past};any;hold"));
-}
-
 /// Role lines until there are so many.
 fn fill_roles(records: &mut Records, count: usize) {
     for number in ends(records).0..count {

@@ -1,13 +1,16 @@
 //! Images with other records of marks.
 
-use super::parts::{highest, marks, rules, some_marks, with_marks};
+use super::digits::{moved, some_digits};
+use super::parts::{highest, long_marks, marks, rules, some_marks, with_eight, with_marks};
 use super::Records;
 use crate::plain::tree::RuleLine;
 use crate::random::Random;
 
-/// The columns of the name, and those of the digits.
+/// The columns of the name.
 const NAME: std::ops::Range<usize> = 1..9;
-const DIGITS: std::ops::Range<usize> = 10..18;
+
+/// The highest mark that sixteen digits have.
+const HIGHEST: usize = 63;
 
 /// Some records of marks, at least one, made anew by their rules.
 fn remade(random: &mut Random, records: &mut Records, make: fn(&mut Random, &RuleLine) -> Vec<u8>) {
@@ -53,62 +56,49 @@ pub fn zero_too(random: &mut Random, records: &mut Records) {
     });
 }
 
-/// A mark that the past doesn't have, above any; a past of 31 patterns has all.
+/// A mark that the past doesn't have, above any.
 pub fn above(random: &mut Random, records: &mut Records) {
-    if let Some((at, rule)) = some_marks(random, records) {
-        let first = (highest(&rule) + 1).min(31);
-        let more = random.between(first, 31);
+    let choose = *random.pick(&[some_marks, long_marks]);
+    if let Some((at, rule)) = choose(random, records) {
+        let first = highest(&rule) + 1;
+        let more = random.between(first, HIGHEST);
         let set = (0..first).filter(|_| random.chance(30)).chain([more]);
         records[at] = with_marks(&rule, set);
     }
 }
 
-/// The lowest mark that the past doesn't have, alone.
+/// The lowest mark that the past doesn't have, alone; of a long past, or of any.
 pub fn just_above(random: &mut Random, records: &mut Records) {
+    let choose = *random.pick(&[some_marks, long_marks]);
+    if let Some((at, rule)) = choose(random, records) {
+        records[at] = with_marks(&rule, [highest(&rule) + 1]);
+    }
+}
+
+/// A mark that the past doesn't have, in eight digits; a past of 31 patterns or more
+/// has all of these.
+pub fn above_eight(random: &mut Random, records: &mut Records) {
     if let Some((at, rule)) = some_marks(random, records) {
-        records[at] = with_marks(&rule, [(highest(&rule) + 1).min(31)]);
+        let first = (highest(&rule) + 1).min(31);
+        let lowest = random.chance(50);
+        let more = if lowest {
+            first
+        } else {
+            random.between(first, 31)
+        };
+        let set = (0..first).filter(|_| !lowest && random.chance(30));
+        records[at] = with_eight(&rule, set.chain([more]));
     }
 }
 
-/// Marks that the past has, where it has enough of them, in small letters.
-pub fn small_letters(random: &mut Random, records: &mut Records) {
-    let tried = (0..10).filter_map(|_| some_marks(random, records));
-    let most = tried.max_by_key(|(_, rule)| highest(rule));
-    if let Some((at, rule)) = most {
-        records[at] = with_marks(&rule, [1, 3]);
-        records[at][DIGITS].make_ascii_lowercase();
-    }
-}
-
-/// The bytes from one column on moved by one to the left or to the right, where a
-/// new byte fills the gap; the newline stays where it is.
-fn moved(record: &mut Vec<u8>, column: usize, fill: Option<u8>) {
-    record.pop();
-    match fill {
-        Some(byte) => {
-            record.insert(column, byte);
-            record.pop();
-        }
-        None => {
-            record.remove(column);
-            record.push(b' ');
-        }
-    }
-    record.push(b'\n');
-}
-
-pub fn seven_digits(random: &mut Random, records: &mut Records) {
-    if let Some((at, _)) = some_marks(random, records) {
-        // The first and the last are the ones that a careless reader wouldn't miss.
-        let column = *random.pick(&[10, 10, 13, 17]);
-        moved(&mut records[at], column, None);
-    }
-}
-
-pub fn nine_digits(random: &mut Random, records: &mut Records) {
-    if let Some((at, _)) = some_marks(random, records) {
-        let column = *random.pick(&[10, 10, 14, 18]);
-        moved(&mut records[at], column, Some(b'0'));
+/// Marks that the past has, and one that it doesn't have in the upper half.
+pub fn upper_half(random: &mut Random, records: &mut Records) {
+    if let Some((at, rule)) = some_marks(random, records) {
+        let highest = highest(&rule);
+        let more = random.between(32.max(highest + 1), HIGHEST);
+        let more = *random.pick(&[more, more, HIGHEST]);
+        let set = (0..=highest).filter(|_| random.chance(30)).chain([more]);
+        records[at] = with_marks(&rule, set);
     }
 }
 
@@ -116,37 +106,19 @@ pub fn nine_digits(random: &mut Random, records: &mut Records) {
 pub fn shifted(random: &mut Random, records: &mut Records) {
     if let Some((at, _)) = some_marks(random, records) {
         let fill = *random.pick(&[None, Some(b' ')]);
+        some_digits(random, &mut records[at]);
         moved(&mut records[at], 9, fill);
-    }
-}
-
-/// A space anywhere: what may differ within lines may not differ here.
-pub fn space_inside(random: &mut Random, records: &mut Records) {
-    if let Some((at, rule)) = some_marks(random, records) {
-        let column = match random.below(3) {
-            0 => 1,
-            1 => NAME.start + rule.name.len().min(7),
-            _ => random.between(DIGITS.start, DIGITS.end - 1),
-        };
-        moved(&mut records[at], column, Some(b' '));
-    }
-}
-
-/// A byte just below or just above those of the digits.
-pub fn edge_of_digits(random: &mut Random, records: &mut Records) {
-    if let Some((at, _)) = some_marks(random, records) {
-        let column = random.between(DIGITS.start, DIGITS.end - 1);
-        records[at][column] = *random.pick(b"/:@G`g -xO");
     }
 }
 
 /// A byte before the digits or behind them.
 pub fn other_byte(random: &mut Random, records: &mut Records) {
     if let Some((at, _)) = some_marks(random, records) {
+        let digits = some_digits(random, &mut records[at]);
         let last = records[at].len() - 1;
-        let any = random.between(DIGITS.end, last);
-        let before = DIGITS.start - 1;
-        let column = *random.pick(&[before, before, DIGITS.end, last - 1, last, any]);
+        let any = random.between(digits.end, last);
+        let before = digits.start - 1;
+        let column = *random.pick(&[before, before, digits.end, last - 1, last, any]);
         records[at][column] = *random.pick(b"0AM-.\0\n\r\t\x7f\xff");
     }
 }

@@ -2,6 +2,7 @@
 //! image at all.
 
 mod bytes;
+mod digits;
 mod elsewhere;
 mod lines;
 mod marks;
@@ -22,13 +23,12 @@ type Records = Vec<Vec<u8>>;
 /// as it is.
 type Way = fn(&mut Random, &mut Records);
 
-static WAYS: [Way; 39] = [
+static WAYS: [Way; 48] = [
     lines::respaced,
     lines::refused_3,
     lines::refused_4,
     lines::refused_5,
     lines::refused_6,
-    lines::refused_7,
     lines::refused_8,
     lines::filled,
     marks::others,
@@ -36,14 +36,24 @@ static WAYS: [Way; 39] = [
     marks::all,
     marks::highest_alone,
     marks::zero_too,
+    digits::eight,
+    digits::mixed,
+    digits::eight_any,
+    digits::seven,
+    digits::nine,
+    digits::fifteen,
+    digits::seventeen,
+    digits::eight_and_eight,
+    digits::exchanged,
+    digits::small_letters,
+    digits::small_upper,
+    digits::edge,
+    digits::space_inside,
     marks::above,
     marks::just_above,
-    marks::small_letters,
-    marks::seven_digits,
-    marks::nine_digits,
+    marks::above_eight,
+    marks::upper_half,
     marks::shifted,
-    marks::space_inside,
-    marks::edge_of_digits,
     marks::other_byte,
     marks::other_kind,
     marks::other_name,
@@ -65,7 +75,8 @@ static WAYS: [Way; 39] = [
 ];
 
 /// Those that give other marks which the pasts have.
-static OTHER_MARKS: [Way; 5] = [
+static OTHER_MARKS: [Way; 6] = [
+    digits::eight_any,
     marks::others,
     marks::none,
     marks::all,
@@ -84,11 +95,29 @@ pub fn changed(random: &mut Random, turn: usize, image: &[u8]) -> Vec<u8> {
     by(WAYS[turn % WAYS.len()], random, image)
 }
 
+/// The image with all its marks in eight digits; those above 31 are gone then.
+pub fn in_eight_digits(random: &mut Random, image: &[u8]) -> Vec<u8> {
+    by(digits::eight, random, image)
+}
+
+/// The image with marks from which a long past goes on, often those of eight digits.
+pub fn with_long_marks(random: &mut Random, image: &[u8]) -> Vec<u8> {
+    let ways: [Way; 4] = [
+        digits::eight_any,
+        digits::eight_any,
+        marks::all,
+        marks::highest_alone,
+    ];
+    by(*random.pick(&ways), random, image)
+}
+
 /// The image changed in such a way that it is still one, mostly.
 pub fn still_an_image(random: &mut Random, image: &[u8]) -> Vec<u8> {
-    let way = match random.below(8) {
-        0..=3 => lines::respaced,
-        4 => lines::filled,
+    let way = match random.below(9) {
+        0..=2 => lines::respaced,
+        3 => lines::filled,
+        4 => digits::eight,
+        5 => digits::mixed,
         _ => *random.pick(&OTHER_MARKS),
     };
     by(way, random, image)

@@ -2,8 +2,9 @@
 
 use super::parts::{ends, marks, rules};
 use super::Records;
-use crate::plain::image::mark_record;
+use crate::plain::image::{mark_record_of, DIGITS};
 use crate::plain::marks::Marks;
+use crate::plain::restore::OLD_DIGITS;
 use crate::random::Random;
 use crate::spell::record;
 
@@ -101,7 +102,8 @@ pub fn marks_more(random: &mut Random, records: &mut Records) {
     let rules = rules(records);
     let last = rules.last().map_or(&b"top"[..], |rule| &rule.name);
     let name = *random.pick(&[last, last, b"top", b"zz-none", b""]);
-    records.push(mark_record(name, &Marks::from([0])));
+    let digits = *random.pick(&[DIGITS, OLD_DIGITS]);
+    records.push(mark_record_of(name, &Marks::from([0]), digits));
 }
 
 /// One record of marks too few, or none at all.

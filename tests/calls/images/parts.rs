@@ -3,8 +3,9 @@
 use super::Records;
 use crate::plain::book::RECORD;
 use crate::plain::grammar;
-use crate::plain::image::mark_record;
+use crate::plain::image::{mark_record, mark_record_of, DIGITS};
 use crate::plain::marks::Marks;
+use crate::plain::restore::OLD_DIGITS;
 use crate::plain::survey::patterns;
 use crate::plain::tree::{Line, RuleLine};
 use crate::random::Random;
@@ -49,9 +50,31 @@ pub fn some_marks(random: &mut Random, records: &Records) -> Option<(usize, Rule
     Some((marks(records).start + at, rules.swap_remove(at)))
 }
 
+/// The same for the longest past of some that are drawn.
+pub fn long_marks(random: &mut Random, records: &Records) -> Option<(usize, RuleLine)> {
+    let drawn = (0..4).filter_map(|_| some_marks(random, records));
+    drawn.max_by_key(|(_, rule)| highest(rule))
+}
+
 /// The record of these marks for that rule.
 pub fn with_marks(rule: &RuleLine, marks: impl IntoIterator<Item = usize>) -> Vec<u8> {
     mark_record(&rule.name, &marks.into_iter().collect::<Marks>())
+}
+
+/// The same in eight digits; marks above 31 are left away.
+pub fn with_eight(rule: &RuleLine, marks: impl IntoIterator<Item = usize>) -> Vec<u8> {
+    mark_record_of(&rule.name, &marks.into_iter().collect(), OLD_DIGITS)
+}
+
+/// The columns of the digits, where there are as many as keeping writes, and of the
+/// eight.
+pub const SIXTEEN: std::ops::Range<usize> = 10..10 + DIGITS;
+pub const EIGHT: std::ops::Range<usize> = 10..10 + OLD_DIGITS;
+
+/// A record with sixteen digits gets the lower eight of them.
+pub fn shorten(record: &mut [u8]) {
+    record.copy_within(EIGHT.end..SIXTEEN.end, EIGHT.start);
+    record[EIGHT.end..SIXTEEN.end].fill(b' ');
 }
 
 /// The highest mark that the rule's past has.

@@ -51,8 +51,9 @@ fn full_rules(stage: &mut Stage) {
     }
     stage.line("rule one-more: any; any; pass");
     stage.rule();
-    // The order of rows 5, 6, 7 and 8 where more than one would do.
-    let many = "<>".repeat(32);
+    // The order of rows 5, 6 and 8 where more than one would do; of patterns there are
+    // never too many.
+    let many = "<>".repeat(50);
     stage.line(&format!("rule zzz: {many};any;hold"));
     stage.line(&format!("rule zzz: {many};<zzzz>;hold"));
     stage.line(&format!("rule top: {many};<zzzz>;hold"));

@@ -1,9 +1,13 @@
-//! Pasts of about 31 patterns, which is the most that a rule may have.
+//! Pasts of many patterns, up to the 55 that a line has room for.
 
 use crate::language::Maker;
+use crate::packed;
 use crate::spell::text;
 use crate::spoil;
 use crate::stage::Stage;
+
+/// Patterns of three bytes over the roles that these sessions have.
+const THREES: [&str; 4] = ["<a>", "<b>", "<c>", "<*>"];
 
 fn roles(stage: &mut Stage) {
     for line in ["role a under top", "role b under a", "role c under top"] {
@@ -11,32 +15,35 @@ fn roles(stage: &mut Stage) {
     }
 }
 
-/// 31 patterns in a row, few of them starred, and acts from the first to the last.
+/// 55 patterns in a row, and acts from the first to the last; then another row with
+/// some of them longer or starred.
 pub fn row(stage: &mut Stage) {
     roles(stage);
-    let mut past = String::new();
-    let mut stars = *stage.random.pick(&[0, 0, 4, 10]);
-    for _ in 0..31 {
-        past += *stage.random.pick(&["<a>", "<b>", "<c>", "<>"]);
-        if stars > 0 && stage.random.chance(25) {
-            past += "*";
-            stars -= 1;
-        }
-    }
-    stage.line(&format!("rule row31:{past};any;hold"));
+    let past = "<>".repeat(packed::MOST);
+    stage.line(&format!("rule rw:{past};<>;hold"));
+    stage.lead();
+    stage.follow_plan();
+    let size = stage.random.between(31, packed::MOST);
+    packed(stage, "rx", size);
     stage.lead();
     stage.follow_plan();
 }
 
 pub fn patterns(stage: &mut Stage) {
     roles(stage);
-    for size in [31, 32] {
-        many(stage, size, false);
+    packed(stage, "p0", packed::MOST);
+    for size in [31, 32, 35] {
+        many(stage, &format!("m{size}"), size, false);
     }
-    for _ in 0..stage.random.between(2, 4) {
-        let size = *stage.random.pick(&[29, 30, 31, 31, 31, 32, 33, 40]);
+    for at in 1..=stage.random.between(2, 4) {
+        let size = stage.random.between(31, packed::MOST);
         let unheld = stage.random.chance(10);
-        many(stage, size, unheld);
+        // A longer past than this has no room for much else than its patterns.
+        if size <= 40 && (unheld || stage.random.chance(60)) {
+            many(stage, &format!("m{at}"), size, unheld);
+        } else {
+            packed(stage, &format!("p{at}"), size);
+        }
         stage.lead();
         follow(stage);
     }
@@ -44,8 +51,8 @@ pub fn patterns(stage: &mut Stage) {
 
 /// Acts enough to come to the end of a long past.
 fn follow(stage: &mut Stage) {
-    for _ in 0..stage.random.between(10, 45) {
-        if stage.random.chance(5) {
+    for _ in 0..stage.random.between(10, 65) {
+        if stage.random.chance(3) {
             spoil::noise(stage);
         } else {
             stage.act();
@@ -53,19 +60,24 @@ fn follow(stage: &mut Stage) {
     }
 }
 
-/// A rule of that many patterns; where `unheld`, one that uses a role not held,
-/// which is told before the patterns are counted.
-fn many(stage: &mut Stage, size: usize, unheld: bool) {
+/// A rule of that many patterns, most of them the shortest.
+fn packed(stage: &mut Stage, name: &str, size: usize) {
+    let line = packed::rule(&mut stage.random, name, size, &THREES);
+    stage.line(&line);
+}
+
+/// A rule of that many patterns, of all kinds; where `unheld`, one that uses a role
+/// not held.
+fn many(stage: &mut Stage, name: &str, size: usize, unheld: bool) {
     let mut roles = vec!["a".to_string(), "b".to_string(), "c".to_string()];
     if unheld {
         roles.push("none".to_string());
     }
-    let name = format!("p{}", stage.random.below(40));
     // Where a line has no room, the next try has shorter patterns.
     for short in (10..).step_by(10) {
         let mut maker = Maker::new(&mut stage.random, &roles);
         maker.short = short;
-        maker.head(&name);
+        maker.head(name);
         maker.past(size);
         maker.tail();
         let made = maker.out;

@@ -1,11 +1,21 @@
 //! What is seen in a single call.
 
 use super::Tally;
+use crate::packed::MOST;
 use crate::plain::book::RECORD;
 use crate::plain::grammar;
 use crate::plain::survey::patterns;
-use crate::plain::tree::Line;
+use crate::plain::tree::{Line, Past, RuleLine};
 use crate::session::{Answer, Call};
+
+/// Patterns side by side, and nothing else.
+fn is_row(past: &Past) -> bool {
+    match past {
+        Past::Either(sides) if sides.len() == 1 => is_row(&sides[0]),
+        Past::Side(parts) => parts.iter().all(|part| matches!(part, Past::Pattern(_))),
+        _ => false,
+    }
+}
 
 impl Tally {
     pub fn call(&mut self, call: &Call, answer: &Answer) {
@@ -40,9 +50,35 @@ impl Tally {
         match (line, number) {
             (Some(Line::Role { .. }), 8) => self.count("64 roles held, one more refused by 8"),
             (Some(Line::Rule(_)), 8) => self.count("32 rules held, one more refused by 8"),
-            (_, 0) if count == 31 => self.count("rule of 31 patterns taken"),
-            (_, 7) if count == 32 => self.count("rule of 32 patterns refused by 7"),
+            (Some(Line::Rule(rule)), 0) if count >= 31 => self.long_rule(rule, count),
             _ => {}
+        }
+    }
+
+    /// A rule of many patterns is taken.
+    fn long_rule(&mut self, rule: RuleLine, count: usize) {
+        match count {
+            31 => self.count("rule of 31 patterns taken"),
+            32 => self.count("rule of 32 patterns taken"),
+            35 => self.count("rule of 35 patterns taken"),
+            MOST => self.count("rule of 55 patterns taken"),
+            _ => {}
+        }
+        if count >= 32 {
+            self.count("rule of 32 patterns or more taken");
+            let row = count == MOST && is_row(&rule.past);
+            self.long.insert(rule.name, row);
+        }
+    }
+
+    /// An act is held by the rule of that name.
+    fn held(&mut self, name: &[u8]) {
+        let row = self.long.get(name).copied();
+        if row.is_some() {
+            self.count("rule of 32 patterns or more holds");
+        }
+        if row == Some(true) {
+            self.count("rule of 55 patterns in a row holds");
         }
     }
 
@@ -53,8 +89,8 @@ impl Tally {
             _ => "01 to 63",
         };
         self.count(&format!("{} {worked}", char::from(reply[0])));
-        if reply.starts_with(b"H 01 row31 ") {
-            self.count("rule of 31 patterns in a row holds");
+        if reply[0] == b'H' {
+            self.held(reply[5..13].trim_ascii_end());
         }
         if reply[0] == b'C' {
             self.committed(call, reply);

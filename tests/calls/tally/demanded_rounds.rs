@@ -1,7 +1,7 @@
 //! What must have been seen in rounds.
 
 /// Each of these must occur.
-pub const DEMANDED: [&str; 59] = [
+pub const DEMANDED: [&str; 62] = [
     "round taken",
     "round taken: no records",
     "round taken: 512 records",
@@ -18,6 +18,9 @@ pub const DEMANDED: [&str; 59] = [
     "round taken: an image from elsewhere",
     "round taken: gone on after an image from elsewhere",
     "round taken: the last image with other marks",
+    "round taken: eight digits",
+    "round taken: eight and sixteen digits mixed",
+    "round taken: a mark above 31 written",
     "round taken: other spaces, lines written anew",
     "round taken: no records, lines written anew",
     "round taken: a smaller image, old records behind it",

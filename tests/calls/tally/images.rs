@@ -6,6 +6,8 @@ use crate::plain::image::image;
 use crate::plain::reply::LENGTH;
 use crate::plain::rule::{Rule, Seen};
 use crate::plain::session_book::SessionBook;
+use crate::plain::survey::patterns;
+use crate::plain::tree::Name;
 use crate::session::Answer;
 
 /// What one session shows, operation by operation.
@@ -23,6 +25,8 @@ pub struct Watch {
     pub(super) last: Last,
     /// How the monitor came back last.
     pub(super) back: Back,
+    /// The rules of 32 patterns or more that came back by eight digits last.
+    pub(super) cut: Vec<Name>,
 }
 
 #[derive(Default)]
@@ -105,7 +109,12 @@ impl Watch {
     fn held_by(&mut self, book: &Book, name: &[u8]) {
         let decides = book.rules().iter().find(|rule| rule.line.name == name);
         match decides {
-            Some(rule) if is_given(rule) => self.count("act held by a rule with given marks"),
+            Some(rule) if is_given(rule) => {
+                self.count("act held by a rule with given marks");
+                if patterns(&rule.line.past) >= 32 {
+                    self.count("act held by a rule of 32 patterns or more with given marks");
+                }
+            }
             _ => self.count("act held by a rule declared after an image from elsewhere"),
         }
     }

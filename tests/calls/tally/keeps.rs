@@ -2,8 +2,10 @@
 
 use super::images::{Last, Watch};
 use crate::keeping::{Keep, MOST};
+use crate::packed;
 use crate::plain::book::{Book, RECORD};
 use crate::plain::image::image;
+use crate::plain::rule::Rule;
 use crate::plain::session_book::{SessionBook, TOO_SHORT};
 use crate::session::Answer;
 
@@ -44,10 +46,26 @@ impl Watch {
         }
     }
 
+    fn marks_of(&mut self, book: &Book, rule: &Rule) {
+        let marks = rule.marks(book.list(), book.roles());
+        if marks.range(32..).count() > 0 {
+            self.count("keep: a rule with a mark above 31");
+            if self.cut.contains(&rule.line.name) {
+                self.count("keep: a mark above 31 that was given in eight digits as none");
+            }
+        }
+        if marks.contains(&packed::MOST) {
+            self.count("keep: a rule with mark 55");
+        }
+    }
+
     /// The image of such a book is kept.
     fn image_of(&mut self, book: &Book, records: usize) {
         if records == 0 {
             self.count("keep: a fresh monitor, 0 records");
+        }
+        for rule in book.rules() {
+            self.marks_of(book, rule);
         }
         if book.rules().len() == 32 {
             self.count("keep: 32 rules");

@@ -21,6 +21,7 @@ use crate::judging::Question;
 use crate::operations::HIGHEST_KIND;
 use crate::plain::book::RECORD;
 use crate::plain::restore::restored;
+use crate::plain::tree::Name;
 
 /// What must have been seen.
 fn demanded() -> impl Iterator<Item = &'static str> {
@@ -40,6 +41,9 @@ pub struct Tally {
     seen: BTreeMap<String, usize>,
     lengths: BTreeSet<usize>,
     sizes: BTreeSet<usize>,
+    /// Of this session's calls: the rules of 32 patterns or more by name, and whether
+    /// each is a row of 55.
+    long: BTreeMap<Name, bool>,
 }
 
 impl Tally {
@@ -49,6 +53,7 @@ impl Tally {
 
     pub fn kind(&mut self, name: &str) {
         self.sessions += 1;
+        self.long.clear();
         self.count(&format!("kind {name}"));
     }
 
@@ -111,6 +116,14 @@ impl Tally {
             near(&self.lengths, 300)
         );
         println!("{:9}  reply sizes from 0 to 128", near(&self.sizes, 128));
+    }
+
+    /// What has occurred and can't: no record, in a call or in an image, has more than
+    /// 63 patterns, so that nothing is ever refused by 7.
+    pub fn forbidden(&self) -> Option<&'static str> {
+        demanded::FORBIDDEN
+            .into_iter()
+            .find(|what| self.times(what) > 0)
     }
 
     /// What should have occurred and didn't.

@@ -3,17 +3,34 @@
 use super::images::{Back, Last, Watch};
 use super::why::why;
 use crate::keeping::Restore;
+use crate::packed::MOST;
 use crate::plain::book::RECORD;
 use crate::plain::image::image;
 use crate::plain::marks::Marks;
-use crate::plain::rule::Seen;
+use crate::plain::rule::{Rule, Seen};
 use crate::plain::session_book::{SessionBook, NO_IMAGE};
+use crate::plain::survey::patterns;
 use crate::session::Answer;
 
 /// The lines of an image.
 pub(super) fn lines(image: &[u8]) -> Vec<&[u8]> {
     let records = image.chunks(RECORD);
     records.filter(|record| record[0] == b'L').collect()
+}
+
+/// Of each record of marks, whether it has eight digits.
+pub(super) fn digits(image: &[u8]) -> Vec<bool> {
+    let marks = image.chunks(RECORD).filter(|record| record[0] == b'M');
+    marks.map(|record| record[18] == b' ').collect()
+}
+
+/// Whether each record given is one of these, or one of marks with its lower digits.
+fn is_shortened(own: &[u8], given: &[u8]) -> bool {
+    let lower = |own: &[u8], given: &[u8]| {
+        own[0] == b'M' && own[..10] == given[..10] && own[18..26] == given[10..18]
+    };
+    let mut pairs = own.chunks(RECORD).zip(given.chunks(RECORD));
+    own.len() == given.len() && pairs.all(|(own, given)| own == given || lower(own, given))
 }
 
 impl Watch {
@@ -23,6 +40,7 @@ impl Watch {
             return self.count(format!("restore 12: {}", why(&restore.image)));
         }
         self.last = Last::Returned;
+        self.cut.clear();
         if !restore.lent.is_empty() {
             self.count("restore: with reply bytes, as lent afterwards");
         }
@@ -58,23 +76,49 @@ impl Watch {
     fn back_to_marks(&mut self, book: &SessionBook, given: &[u8]) {
         self.back = Back::ToMarks;
         self.count("restore: an image from elsewhere");
-        // All but spaces within lines is as keeping writes it.
-        if image(book.now()) != given {
+        let written = image(book.now());
+        if lines(&written) != lines(given) {
             self.count("restore: other spaces");
         }
+        self.digits(book, given, &written);
         let mut own = book.kept().iter().filter(|own| !own.image.is_empty());
-        if own.any(|own| lines(&own.image) == lines(given)) {
+        if own.any(|own| own.image != written && lines(&own.image) == lines(given)) {
             self.count("restore: an own image with other marks");
         }
         for rule in book.now().rules() {
             if let Seen::Given(followed) = &rule.seen {
-                self.given(&followed.marks);
+                self.given(&followed.marks, patterns(&rule.line.past));
             }
         }
     }
 
+    /// With how many digits the rules have come. As it is kept now it would be `written`.
+    fn digits(&mut self, book: &SessionBook, given: &[u8], written: &[u8]) {
+        let eight = digits(given);
+        let count = eight.iter().filter(|&&eight| eight).count();
+        match eight.len() - count {
+            0 if count == 0 => return,
+            0 => self.count("restore: eight digits"),
+            _ if count == 0 => return self.count("restore: sixteen digits"),
+            _ => self.count("restore: eight and sixteen digits mixed"),
+        }
+        let long = |rule: &Rule| patterns(&rule.line.past) >= 32;
+        let pairs = book.now().rules().iter().zip(&eight);
+        let cut = pairs.filter(|(rule, &eight)| eight && long(rule));
+        self.cut = cut.map(|(rule, _)| rule.line.name.clone()).collect();
+        if !self.cut.is_empty() {
+            self.count("restore: eight digits for a rule of 32 patterns or more");
+        }
+        let kept = || book.kept().iter().map(|own| &own.image[..]);
+        if kept().any(|own| own == written) {
+            self.count("restore: an own image in eight digits, no mark lost");
+        } else if kept().any(|own| is_shortened(own, given)) {
+            self.count("restore: an own image in eight digits, marks above 31 lost");
+        }
+    }
+
     /// The marks with which a rule has come.
-    fn given(&mut self, marks: &Marks) {
+    fn given(&mut self, marks: &Marks, patterns: usize) {
         if marks.is_empty() {
             self.count("restore: a rule with no marks");
         }
@@ -83,6 +127,15 @@ impl Watch {
         }
         if marks.contains(&31) {
             self.count("restore: a rule with mark 31");
+        }
+        if marks.range(32..).count() > 0 {
+            self.count("restore: a rule with a mark above 31");
+        }
+        if marks.contains(&MOST) {
+            self.count("restore: a rule with mark 55");
+        }
+        if patterns >= 32 && marks.len() == patterns + 1 {
+            self.count("restore: a rule of 32 patterns or more with all marks");
         }
     }
 }

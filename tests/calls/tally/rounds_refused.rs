@@ -1,5 +1,6 @@
 //! What is seen in rounds that are refused.
 
+use super::restores::lines;
 use super::rounds::{used, Before};
 use super::Tally;
 use crate::batch;
@@ -103,8 +104,8 @@ impl Tally {
             return;
         }
         self.count("round 11: with an image from elsewhere");
-        // Keeping would write it in another way.
-        if restored(lent).map_or(false, |book| image(&book) != lent) {
+        // Keeping would write its lines in another way.
+        if restored(lent).map_or(false, |book| lines(&image(&book)) != lines(lent)) {
             self.count("round 11: with other spaces in the image");
         }
     }

@@ -1,12 +1,14 @@
 //! What is seen in rounds that are taken.
 
-use super::restores::lines;
+use super::restores::{digits, lines};
 use super::rounds::{used, Before};
 use super::Tally;
 use crate::batch;
 use crate::keeping::MOST;
 use crate::plain::book::RECORD;
+use crate::plain::image::image as kept;
 use crate::plain::reply::LENGTH;
+use crate::plain::restore::restored;
 use crate::rounds::{Outcome, Round};
 
 impl Tally {
@@ -25,7 +27,23 @@ impl Tally {
         }
         self.old_records(before, round, outcome);
         self.marks(round, outcome);
+        self.upper_half(outcome);
         self.worked(before, round, outcome);
+        if outcome
+            .replies
+            .chunks(LENGTH)
+            .any(|r| r.starts_with(b"R 07"))
+        {
+            self.count("round taken, refusal 7 inside");
+        }
+    }
+
+    fn upper_half(&mut self, outcome: &Outcome) {
+        let written = used(&outcome.image, outcome.used);
+        let mut marks = written.chunks(RECORD).filter(|r| r[0] == b'M');
+        if marks.any(|record| record[10..18] != *b"00000000") {
+            self.count("round taken: a mark above 31 written");
+        }
     }
 
     /// Before and after.
@@ -71,8 +89,11 @@ impl Tally {
             });
         }
         self.count("round taken: an image from elsewhere");
+        self.digits(image);
         let left = before.left.map(|left| used(&left.image, left.used));
-        if left.map_or(false, |left| lines(left) == lines(image)) {
+        let as_kept = restored(image).map(|book| kept(&book));
+        let other = |left: &[u8]| as_kept.map_or(false, |kept| kept != left);
+        if left.map_or(false, |left| lines(left) == lines(image) && other(left)) {
             self.count("round taken: the last image with other marks");
         }
         let written = lines(used(&outcome.image, outcome.used));
@@ -82,6 +103,15 @@ impl Tally {
         self.count("round taken: other spaces, lines written anew");
         if round.batch.records.is_empty() {
             self.count("round taken: no records, lines written anew");
+        }
+    }
+
+    fn digits(&mut self, image: &[u8]) {
+        let eight = digits(image);
+        match eight.iter().filter(|&&eight| eight).count() {
+            0 => {}
+            count if count == eight.len() => self.count("round taken: eight digits"),
+            _ => self.count("round taken: eight and sixteen digits mixed"),
         }
     }
 
