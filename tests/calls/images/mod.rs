@@ -113,11 +113,11 @@ pub fn with_long_marks(random: &mut Random, image: &[u8]) -> Vec<u8> {
 
 /// The image changed in such a way that it is still one, mostly.
 pub fn still_an_image(random: &mut Random, image: &[u8]) -> Vec<u8> {
-    let way = match random.below(9) {
-        0..=2 => lines::respaced,
-        3 => lines::filled,
-        4 => digits::eight,
-        5 => digits::mixed,
+    let way = match random.below(10) {
+        0..=3 => lines::respaced,
+        4 => lines::filled,
+        5 => digits::eight,
+        6 => digits::mixed,
         _ => *random.pick(&OTHER_MARKS),
     };
     by(way, random, image)
