@@ -74,6 +74,12 @@ fn one_off(random: &mut Random, record: &mut Vec<u8>, of: std::ops::Range<usize>
     moved(record, column, if more { Some(b'0') } else { None });
 }
 
+pub fn none(random: &mut Random, records: &mut Records) {
+    if let Some((at, _)) = some_marks(random, records) {
+        records[at][SIXTEEN].fill(b' ');
+    }
+}
+
 pub fn seven(random: &mut Random, records: &mut Records) {
     if let Some((at, _)) = some_marks(random, records) {
         shorten(&mut records[at]);

@@ -23,13 +23,16 @@ type Records = Vec<Vec<u8>>;
 /// as it is.
 type Way = fn(&mut Random, &mut Records);
 
-static WAYS: [Way; 48] = [
+/// Two stand here twice, as much follows on them. Rounds go through the ways with their
+/// own turns of ten, so that the number of ways has no divisor with ten.
+static WAYS: [Way; 51] = [
     lines::respaced,
     lines::refused_3,
     lines::refused_4,
     lines::refused_5,
     lines::refused_6,
     lines::refused_8,
+    lines::filled,
     lines::filled,
     marks::others,
     marks::none,
@@ -38,7 +41,9 @@ static WAYS: [Way; 48] = [
     marks::zero_too,
     digits::eight,
     digits::mixed,
+    digits::mixed,
     digits::eight_any,
+    digits::none,
     digits::seven,
     digits::nine,
     digits::fifteen,

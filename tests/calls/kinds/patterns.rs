@@ -2,7 +2,7 @@
 
 use crate::language::Maker;
 use crate::packed;
-use crate::spell::text;
+use crate::spell::{record, text};
 use crate::spoil;
 use crate::stage::Stage;
 
@@ -23,6 +23,8 @@ pub fn row(stage: &mut Stage) {
     stage.line(&format!("rule rw:{past};<>;hold"));
     stage.lead();
     stage.follow_plan();
+    // The rule would hold each act of no roles from now on; one with a role ends that.
+    stage.say(record(b'E', "a"));
     let size = stage.random.between(31, packed::MOST);
     packed(stage, "rx", size);
     stage.lead();
@@ -45,7 +47,12 @@ pub fn patterns(stage: &mut Stage) {
             packed(stage, &format!("p{at}"), size);
         }
         stage.lead();
-        follow(stage);
+        // Among many acts one that doesn't belong to the plan mostly ends it.
+        if stage.random.chance(60) {
+            stage.follow_plan();
+        } else {
+            follow(stage);
+        }
     }
 }
 

@@ -72,7 +72,7 @@ impl Run {
             1 => images::elsewhere(random),
             _ => self.image[..self.used as usize * RECORD].to_vec(),
         };
-        let image = match random.chance(50) {
+        let image = match random.chance(65) {
             true => images::still_an_image(random, &base),
             false => images::changed(random, self.turn, &base),
         };

@@ -10,7 +10,7 @@ pub const FORBIDDEN: [&str; 5] = [
 ];
 
 /// Each of these must occur.
-pub const DEMANDED: [&str; 151] = [
+pub const DEMANDED: [&str; 152] = [
     "reply D",
     "reply C",
     "reply H",
@@ -149,6 +149,7 @@ pub const DEMANDED: [&str; 151] = [
     "restore 12: marks of another name",
     "restore 12: marks in small letters",
     "restore 12: marks in small letters, in the upper half",
+    "restore 12: no digits",
     "restore 12: seven digits",
     "restore 12: nine digits",
     "restore 12: fifteen digits",

@@ -67,6 +67,7 @@ fn wrong_marks(record: &[u8], rule: &Rule) -> Option<&'static str> {
         return Some("another byte in marks");
     }
     match count {
+        0 if spaces => Some("no digits"),
         7 if spaces => Some("seven digits"),
         8 | 16 if spaces => wrong_value(&record[10..10 + count], patterns(&rule.line.past)),
         8 if is_eight_more(after) => Some("eight digits, a space and eight more"),
