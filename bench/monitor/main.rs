@@ -35,7 +35,34 @@ fn compare_stored(directory: &str) {
         sessions += 1;
     }
     assert!(sessions > 0, "{directory}: no session");
-    println!("{sessions} stored sessions: the same replies from both\n");
+    println!("{sessions} stored sessions: the same replies from both");
+}
+
+/// The acts of an offer, and `z` after runs of every length up to 39: every rule of the sheet has it for a trigger.
+fn asking(acts: &[&'static str]) -> Vec<&'static str> {
+    let mut plain = acts.iter().copied().cycle();
+    let mut asking = Vec::new();
+    for run in (0..40).cycle().take(400) {
+        asking.extend(plain.by_ref().take(run));
+        asking.push("z");
+    }
+    asking
+}
+
+/// The two monitors on a sheet whose rules no act that is measured meets, with acts among those that meet them all: such an act is held by the last of
+/// the rules whose past matches, so that the positions show.
+fn compare_asked(name: &str) {
+    let offer = sheets::offer(name);
+    let acts = asking(offer.acts);
+    let session = Session::new(&offer.sheet, &acts, acts.len());
+    let (mut ours, mut theirs) = (session.answers(), session.answers());
+    proved::run(&session, session.calls(), &mut ours);
+    fast::run(&session, session.calls(), &mut theirs);
+    same(name, &ours, &theirs, session.calls());
+    let held = |k: &usize| ours.all_begin(*k..k + 1, "H 01");
+    let held = (0..session.calls()).filter(held).count();
+    assert!(held > 0, "{name}: no act is held");
+    println!("{name}, {held} acts held: the same replies from both");
 }
 
 /// One row: `count` acts, after the sheet and `before` acts.
@@ -107,6 +134,9 @@ fn main() {
     match arguments.iter().map(String::as_str).collect::<Vec<_>>()[..] {
         [directory] => {
             compare_stored(directory);
+            compare_asked("heavy");
+            compare_asked("long");
+            println!();
             all();
         }
         ["run", offer, count] => once(offer, count),
