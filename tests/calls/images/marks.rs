@@ -95,8 +95,9 @@ pub fn above_eight(random: &mut Random, records: &mut Records) {
 pub fn upper_half(random: &mut Random, records: &mut Records) {
     if let Some((at, rule)) = some_marks(random, records) {
         let highest = highest(&rule);
-        let more = random.between(32.max(highest + 1), HIGHEST);
-        let more = *random.pick(&[more, more, HIGHEST]);
+        let lowest = 32.max(highest + 1);
+        let any = random.between(lowest, HIGHEST);
+        let more = *random.pick(&[lowest, any, HIGHEST]);
         let set = (0..=highest).filter(|_| random.chance(30)).chain([more]);
         records[at] = with_marks(&rule, set);
     }
