@@ -2,7 +2,8 @@
 //! compared call by call, operation by operation and round by round, byte for byte.
 //!
 //! `calls [COUNT] [SEED]`: at least COUNT calls; fails at the first difference,
-//! and when something that should have occurred didn't.
+//! when something has occurred that can't (refusal 7), and when something that
+//! should have occurred didn't.
 //! `calls stored DIRECTORY`: the stored sessions in batches.
 //! `calls images DIRECTORY`: the stored sessions with images.
 //! `calls replay FILE`: a failing session again.

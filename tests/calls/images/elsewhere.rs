@@ -3,6 +3,7 @@
 use crate::packed;
 use crate::plain::image::image;
 use crate::random::Random;
+use crate::spell::ROOM;
 use crate::stage::Stage;
 
 /// Patterns of three bytes that acts of any roles meet.
@@ -51,8 +52,8 @@ fn long_rule(stage: &mut Stage) {
         let line = packed::rule(&mut stage.random, "zl", size, &THREES);
         return stage.line(&line);
     }
-    // The line has as much room as two responses of ten bytes leave it.
-    let room = 126 - "rule zl:;<*>;send <top>".len() - 2 * size;
+    // Room is left for the longest of the responses.
+    let room = ROOM - "rule zl:;<*>;send <top>".len() - 2 * size;
     let past = packed::past(&mut stage.random, size, room, &THREES);
     rule(stage, "zl", &past, "<*>");
 }

@@ -24,7 +24,7 @@ type Records = Vec<Vec<u8>>;
 type Way = fn(&mut Random, &mut Records);
 
 /// Two stand here twice, as much follows on them. Rounds go through the ways with their
-/// own turns of ten, so that the number of ways has no divisor with ten.
+/// own turns of ten, so that the number of ways and ten have no divisor in common.
 static WAYS: [Way; 51] = [
     lines::respaced,
     lines::refused_3,

@@ -26,14 +26,14 @@ pub fn row(stage: &mut Stage) {
     // The rule would hold each act of no roles from now on; one with a role ends that.
     stage.say(record(b'E', "a"));
     let size = stage.random.between(31, packed::MOST);
-    packed(stage, "rx", size);
+    long_rule(stage, "rx", size);
     stage.lead();
     stage.follow_plan();
 }
 
 pub fn patterns(stage: &mut Stage) {
     roles(stage);
-    packed(stage, "p0", packed::MOST);
+    long_rule(stage, "p0", packed::MOST);
     for size in [31, 32, 35] {
         many(stage, &format!("m{size}"), size, false);
     }
@@ -44,7 +44,7 @@ pub fn patterns(stage: &mut Stage) {
         if size <= 40 && (unheld || stage.random.chance(60)) {
             many(stage, &format!("m{at}"), size, unheld);
         } else {
-            packed(stage, &format!("p{at}"), size);
+            long_rule(stage, &format!("p{at}"), size);
         }
         stage.lead();
         // Among many acts one that doesn't belong to the plan mostly ends it.
@@ -68,7 +68,7 @@ fn follow(stage: &mut Stage) {
 }
 
 /// A rule of that many patterns, most of them the shortest.
-fn packed(stage: &mut Stage, name: &str, size: usize) {
+fn long_rule(stage: &mut Stage, name: &str, size: usize) {
     let line = packed::rule(&mut stage.random, name, size, &THREES);
     stage.line(&line);
 }
