@@ -1,6 +1,6 @@
 #!/usr/bin/env bash
 # The cost of a call, against a straightforward fast monitor in Rust in the same run (docs/PERFORMANCE.md). No test depends on it.
-# `./bench.sh run SHEET COUNT` answers COUNT acts on a sheet once (bare, light, held, sent, heavy, worst), under the command in $UNDER: for a profiler.
+# `./bench.sh run SHEET COUNT` answers COUNT acts on a sheet once (bare, light, held, sent, heavy, long, worst), under the command in $UNDER: for a profiler.
 set -eu
 cd "$(dirname "$0")"
 command -v rustc > /dev/null || { apt-get update && apt-get install -y rustc; }
