@@ -37,7 +37,7 @@ R 06 -        | done
 R 06 -        | done
 R 04 -        | done
 R 03 -        | done
-R 07 -        | done
+D 00 many     | done
 C 00 -        | lit
 R 02 -        | lit
 END

@@ -35,7 +35,7 @@ starts =
     ∷ row "Elamp" "C 00 -        | a c"
     ∷ []
 
--- refusals, and the list of no acts
+-- refusals, a line of 55 patterns, which is the most, and the list of no acts
 abbrev pub refusals : List FilmRow
 refusals =
     row "Quv" "R 03 -        | -"
@@ -43,7 +43,7 @@ refusals =
     ∷ row "Etop;" "R 04 -        | a"
     ∷ row "Lrole a under top" "R 05 -        | a"
     ∷ row "Lrole b under c" "R 06 -        | a"
-    ∷ row "Lrule b: <><><><><><><><><><><><><><><><><><><><><><><><><><><><><><><><>;any;hold" "R 07 -        | a"
+    ∷ row "Lrule b:<><><><><><><><><><><><><><><><><><><><><><><><><><><><><><><><><><><><><><><><><><><><><><><><><><><><><><><>;<>;hold" "D 00 b        | a"
     ∷ row "Etop" "C 00 -        | a"
     ∷ row "E" "C 00 -        | -"
     ∷ []
