@@ -13,7 +13,7 @@ extern "C" {
 #endif
 
 /* An image is the monitor written out in records of 128 bytes: the role lines in declared order without top, the rule lines in declared order, then for each
- * rule a record of its marks, 0 to 63, as sixteen hexadecimal digits. It has at most 63 + 32 + 32 records; so a buffer of this many bytes is never too short
+ * rule a record of its marks, 0 to 63, as sixteen capital hexadecimal digits. It has at most 63 + 32 + 32 records; so a buffer of this many bytes is never too short
  * to keep into. In an image that is handed over, a record of marks may also have eight digits, of marks 0 to 31; the higher ones are then clear. */
 enum { STAND_IMAGE_MOST = 16256 };
 

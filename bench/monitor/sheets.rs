@@ -72,11 +72,11 @@ pub fn offer(name: &str) -> Offer {
     Offer { sheet, acts, reply }
 }
 
-/// The roles that the heavy sheet's pasts speak of; `z` is declared too, and never offered.
+/// The roles that the heavy sheet's pasts speak of; `z` is declared too, and offered by no act that is measured.
 const LETTERS: [char; 8] = ['a', 'b', 'c', 'd', 'e', 'f', 'g', 'h'];
 
 /// 32 rules of 31 patterns: `any*<a>any*<b> ..`, 15 times `any*` and 16 names. When every name has come often enough, each `any*` stays
-/// alive for good, and the names after them come and go. The trigger, `<z>`, is never met.
+/// alive for good, and the names after them come and go. The trigger, `<z>`, is met by no act that is measured.
 fn heavy() -> Sheet {
     let mut lines: Sheet = LETTERS
         .iter()
@@ -95,8 +95,9 @@ fn heavy() -> Sheet {
 /// One role each, each letter in turn in an order that is not the alphabet's.
 const HEAVY_ACTS: [&str; 11] = ["a", "c", "b", "e", "h", "d", "d", "g", "f", "a", "b"];
 
-/// 32 rules of 51 patterns, which their lines just have room for: 48 times `<>` in three runs, `any*` before each, at other places in each rule. An act of no
-/// roles moves every position on; one with a role leaves those of `any*` alone, of which two stand beyond the first run. The trigger, `<z>`, is never met.
+/// 32 rules of 51 patterns, which their lines just have room for: 48 times `<>` in three runs, `any*` before each, at other places in each of the first 25 rules; the
+/// last seven are as the first. An act of no roles moves every position on; one with a role leaves those of `any*` alone, of which two stand beyond the first run. The trigger,
+/// `<z>`, is met by no act that is measured.
 fn long() -> Sheet {
     let mut lines = vec![role("a", "top"), role("z", "top")];
     for i in 0..32 {

@@ -27,7 +27,7 @@ pub fn compare(number: usize, stage: &mut Stage, tally: &mut Tally) -> Result<()
     compare_operations(number, stage, tally)?;
     compare_image_sessions(number, stage, tally)?;
     compare_runs(number, stage, tally)?;
-    // What the book and the library agree on may still be what can't be.
+    // What the book and the library agree on may still be what can't be. The calls are kept; it may have been seen in a session with other operations among them.
     match tally.forbidden() {
         Some(what) => Err((
             format!("seen, and it can't be: {what}"),

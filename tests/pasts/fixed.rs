@@ -14,7 +14,7 @@ fn check(seed: u64, text: &str, events: &[u8], number: u32, due: &[u8]) {
 
 fn refused(seed: u64) {
     let spaces = format!("rule r:{};any;hold", " ".repeat(126));
-    // One byte too long for a record.
+    // One byte too long for a record's text.
     let many = format!("rule r:{};<>;hold", "<>".repeat(56));
     let texts: [(&str, u32); 12] = [
         ("", 4),
@@ -49,7 +49,7 @@ fn lists(seed: u64) {
     }
 }
 
-/// A row of patterns that the act of no roles meets matches after as many of them, and never else. The row of 55 fills a line.
+/// A row of patterns that the act of no roles meets matches after as many of them, and never else. The row of 55 leaves one byte of a line.
 fn rows(seed: u64) {
     for count in [31, 32, 33, 48, 55] {
         let text = format!("rule r:{};<>;hold", "<>".repeat(count));

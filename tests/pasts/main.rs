@@ -112,15 +112,21 @@ fn compare(seed: u64, text: &str, past: &Past, events: &[Event], counts: &mut Co
         let what = format!("positions {:#x}, and should be {:#x}", marks, reading.marks);
         fail(seed, text, events, &what);
     }
+    tally(past, marks, &right, counts);
+}
+
+/// What a pair of a past and a list has shown: its positions at the end, and whether it matches.
+fn tally(past: &Past, marks: u64, right: &[bool], counts: &mut Counts) {
+    let matched = right[right.len() - 1];
     counts.positions += marks.count_ones() as usize;
     counts.upper += (marks >> 20 & 0xfff).count_ones() as usize;
     counts.high += (marks >> long::LEAST).count_ones() as usize;
     counts.highest += (marks >> long::MOST & 1) as usize;
     counts.pairs += 1;
     counts.long_pairs += is_long(past) as usize;
-    counts.matched += right[events.len()] as usize;
-    counts.full_matched += (right[events.len()] && is_full(past)) as usize;
-    counts.long_matched += (right[events.len()] && is_long(past)) as usize;
+    counts.matched += matched as usize;
+    counts.full_matched += (matched && is_full(past)) as usize;
+    counts.long_matched += (matched && is_long(past)) as usize;
     counts.prefixes += right.len();
 }
 

@@ -137,7 +137,7 @@ restored-accepted s t = go (eqb (length s % record_size) 0) refl
         subst (Accepted s) (some-injective (record { roles = u.roles; rules = m.0 }) t m.2)
         (records-accepted s (eqb-true (length s % record_size) 0 f) u m.0 q.1 m.1)
 
--- An image is accepted, and says t, exactly where C-12's words say so.
+-- An image is accepted, and says t, exactly where the words of C-12 and C-15 say so.
 pub accepted_exactly : (s : List ℕ) (t : PositionMachine) → (restored s ≡ some t) ↔ Accepted s t
 accepted_exactly s t = (restored-accepted s t, accepted-restored s t)
 

@@ -127,8 +127,8 @@ marks_in_lem k w m h l =
 
 -- READING
 
--- a record s of k digits for a rule of that name whose past has n patterns gives the marks m: every byte is as keeping writes it, the digits say all marks, "with marks its
--- past has"
+-- a record s of k digits for a rule of that name whose past has n patterns gives the marks m: every byte is as it is written in k digits, which say all marks, "with marks
+-- its past has"
 pub record MarkSaid (k : ℕ) (w : Name) (n : ℕ) (s : List ℕ) (m : ℕ) : Type 0 where
   pub bytes : s ≡ mark_record k w m
   pub room : m < 16 ^ k

@@ -26,7 +26,7 @@ abbrev pub rules_of : List PositionRule → List Rule
 rules_of xs = map (λ (x : PositionRule). x.rule) xs
 
 -- "a record of byte `M`, the name in eight columns, a space, the marks as .. capital hexadecimal digits .., spaces, newline": the record s gives a rule its marks. C-15:
--- "`M` records now carry sixteen digits; any `M` record with eight is still read, its higher marks clear"
+-- "`M` records now carry sixteen digits; any `M` record with eight is still read, its higher marks clear". Sixteen have room for all marks that a past has (`within`)
 pub data Gives (x : PositionRule) (s : List ℕ) : Type 0 where
   gives_sixteen : s ≡ mark_record digits x.rule.name x.positions → Gives x s
   gives_eight : s ≡ mark_record short_digits x.rule.name x.positions → x.positions < 16 ^ short_digits → Gives x s

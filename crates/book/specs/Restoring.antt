@@ -68,8 +68,8 @@ marks_in k r = value_from 0 (take k (drop 10 r))
 abbrev pub marks_end : ℕ → ℕ
 marks_end n = 2 ^ suc n
 
--- The marks in an `M` record of k digits, for a rule of that name whose past has n patterns: every byte is as keeping writes it ("of another form than those above"), and
--- they are "marks its past has", 0 to n. `read_mark_exactly` of proofs/MarkRecords.antt says so with nothing to compute.
+-- The marks in an `M` record of k digits, for a rule of that name whose past has n patterns: every byte is as it is written in k digits ("of another form than those above"),
+-- and they are "marks its past has", 0 to n. `read_mark_exactly` of proofs/MarkRecords.antt says so with nothing to compute.
 unfoldable pub read_mark : ℕ → Name → ℕ → List ℕ → Option ℕ
 read_mark k w n s = cond (same s (mark_record k w (marks_in k s)) && ltb (marks_in k s) (marks_end n)) (some (marks_in k s)) none
 

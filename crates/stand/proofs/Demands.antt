@@ -113,12 +113,13 @@ keep_of_any_monitor = snapshots.keep_exactly
 pub keep_with_room : (m m' : State) (lent : List ℕ) (n k : ℕ) (b : List ℕ) → KeptAs m lent n k b m' → 127 * record_size ≤ length lent → n ≡ 0
 keep_with_room = snapshots.keep_with_room
 
--- After any operations the image is that of the plain book.
+-- After any operations the image is that of the plain book; "keeping writes sixteen" (C-15) is in the image.
 pub keep_writes_the_book : (os : List Operation) (m m' : State) (lent : List ℕ) (n k : ℕ) (b : List ℕ) → LeftBy os m → KeptAs m lent n k b m' → KeptRow (book_image (book os)) lent (kept n k b)
 keep_writes_the_book os m m' lent n k b l h = snapshots.keep_of_machine m m' lent n k b _ (left-keeps os m l).represents h
 
 -- "Turned away: 12, an image that isn't whole records, holds a line that a fresh monitor .. would refuse, holds records in another order or of another form .., or whose `M`
 -- records don't name each rule once in order with marks its past has": of any monitor at all, the number is 12 exactly when the image is not accepted, and 0 exactly when it is.
+-- C-15, "any `M` record with eight is still read, its higher marks clear", is in `Accepted`.
 pub restore_refused_by_image : (m m' : State) (image : List ℕ) (n : ℕ) → RestoredBy m image n m' → (n ≡ 12) ↔ ((t : PositionMachine) → Accepted image t → ⊥)
 restore_refused_by_image = snapshots.twelve_exactly
 
@@ -201,7 +202,8 @@ as_many_there_are = longest_there_is
 pub seven_never : (os : List Operation) (m m' : State) (c : Call) (a : Answer) → LeftBy os m → HandledAs m c a m' → a.number ≡ 7 → ⊥
 seven_never os m m' c a l h = code.code_seven (book os) m m' c a (left-keeps os m l) h
 
--- So every past that a line can hold is taken, where the line's names and a free place allow it; the theorems of all operations are of it too.
+-- "Whole-session agreement now covers every past a line can hold.": every such past is taken, where the line's names and a free place allow it, and so
+-- `whole_session_is_book` speaks of it.
 pub every_past_taken : (os : List Operation) (m m' : State) (c : Call) (a : Answer) → LeftBy os m → HandledAs m c a m'
     → (n : List ℕ) (p : Past) (t : Pattern) (x : Response) → Lends c → SaysLine c.bytes (rule n p t x) → Free (book os).roles (duty_names (book_duties (book os))) n
     → all_held same (book os).roles (rule_names p t x) ≡ true → length (book_duties (book os)) < 32 → a.number ≡ 0

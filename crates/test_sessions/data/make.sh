@@ -159,7 +159,7 @@ END
 } >hold-as-65th.out
 
 # C-15: "A Greek collection's sheet needs 35 patterns in one past". Seven fragments, for each lamp, filter, exposure, uv, exposure; then `seven` holds an
-# exposure. `uv34` asks for uv as the last act but one, so it never matches. The acts are the 35 and then: the exposure held twice, lamp, which both are
+# exposure. `uv34` has its last two the other way round, and the 34th act is uv, so it never matches. The acts are the 35 and then: the exposure held twice, lamp, which both are
 # stuck after, and an exposure.
 {
     records <<'END'

@@ -21,6 +21,7 @@ impl Tally {
                     self.turned_away(batch);
                 }
                 Operation::Batch(_) => self.taken(&answer.reply),
+                Operation::Call(_) if answer.number == 7 => self.count("refusal 7"),
                 _ => {}
             }
         }

@@ -66,6 +66,7 @@ impl Watch {
         match operation {
             Operation::Keep(keep) => self.keep(book, keep, answer),
             Operation::Restore(restore) => self.restore(book, restore, answer),
+            Operation::Call(_) if answer.number == 7 => self.count("refusal 7"),
             Operation::Call(_) | Operation::Batch(_) if answer.number == 0 => {
                 let replies = answer.reply.chunks(LENGTH);
                 if replies.clone().any(|reply| reply[0] != b'R') {
