@@ -11,7 +11,7 @@ use Rattle.grammar.specs.Size.{size_past}
 use Rattle.patterns.specs.Meets.{order_of, meets}
 use Rattle.positions.specs.Positions.{Positions, Matched}
 use Rattle.positions.specs.Numbers.{size}
-use Rattle.positions.specs.Sets.{has_at, shares}
+use Rattle.common.specs.Sets.{has_at, shares}
 use Rattle.positions.specs.Walk.{step, steps, matches_now}
 use Rattle.positions.proofs.Following.{step_iff, matches_now_iff}
 use Rattle.positions.proofs.SummaryLaws.{step_same, match_same}

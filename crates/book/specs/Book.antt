@@ -6,7 +6,7 @@ use Rattle.grammar.specs.AsRead.{Past}
 use Rattle.patterns.specs.Roles.{top_name, fresh_roles}
 use Rattle.patterns.specs.Meets.{order_of, meets}
 use Rattle.positions.specs.Matcher.{matches}
-use Rattle.positions.specs.Sets.{has_at}
+use Rattle.common.specs.Sets.{has_at}
 use Rattle.positions.specs.Walk.{steps, matches_now}
 use Rattle.follow.specs.Meaning.{past_meaning}
 use Rattle.chain.specs.Work.{committed, held, unfit, too_long}

@@ -1,7 +1,7 @@
 -- The same machine with a number of positions (document 01: marks) for each rule in place of the list of events: the cost of a call does not grow.
 -- Assumes nothing.
 use Rattle.std.specs.Prelude.{List, map, ℕ, drop}
-use Rattle.positions.specs.Sets.{shares}
+use Rattle.common.specs.Sets.{shares}
 use Rattle.follow.specs.Rules.{ends_in}
 pub use Rattle.intake.specs.Machine.{PositionRule, PositionMachine, fresh_machine, start_number, step_number, number_after, move_on, with_event, with_role, with_rule}
 use Rattle.chain.specs.Work.{committed, held, unfit, too_long}

@@ -6,7 +6,7 @@ use Rattle.grammar.specs.AsRead.{Past}
 use Rattle.patterns.specs.Meets.{order_of, meets}
 use Rattle.positions.specs.Past.{Sat}
 use Rattle.positions.specs.Positions.{Positions, Follows, Matched}
-use Rattle.positions.specs.Sets.{has_at}
+use Rattle.common.specs.Sets.{has_at}
 use Rattle.positions.specs.Summaries.{Right}
 use Rattle.follow.specs.Meaning.{past_meaning}
 use Rattle.intake.specs.Machine.{PositionRule}

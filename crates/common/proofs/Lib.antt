@@ -1,3 +1,4 @@
 pub mod Bools
 pub mod AllLaws
 pub mod RefusalLaws
+pub mod SetLaws

@@ -1,3 +1,4 @@
 pub mod Limits
 pub mod All
 pub mod Refusals
+pub mod Sets

@@ -21,7 +21,7 @@ use Rattle.positions.specs.Past.{Past, Sat}
 use Rattle.positions.specs.Matcher.{matches}
 use Rattle.positions.specs.Positions.{at_start}
 use Rattle.positions.specs.Walk.{steps, matches_now}
-use Rattle.positions.specs.Sets.{shares}
+use Rattle.common.specs.Sets.{shares}
 use Rattle.positions.specs.Summaries.{summary, step_of, ends_of}
 use Rattle.follow.specs.Meaning.{past_meaning}
 

@@ -5,7 +5,7 @@ use Rattle.common.specs.Limits.{max_rules}
 use Rattle.grammar.specs.Names.{rule_names, past_names}
 use Rattle.common.specs.All.{All}
 use Rattle.common.proofs.AllLaws.{all_left}
-use Rattle.positions.specs.Sets.{shares}
+use Rattle.common.specs.Sets.{shares}
 use Rattle.positions.specs.Summaries.{ends_of}
 use Rattle.follow.specs.Rules.{ends_in}
 use Rattle.follow.specs.State.{matches_in, matches_at}

@@ -1,7 +1,6 @@
 pub mod Lists
 pub mod Matching
 pub mod Allowed
-pub mod SetLaws
 pub mod NothingHeld
 pub mod WalkLaws
 pub mod Following

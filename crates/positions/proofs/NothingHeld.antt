@@ -4,7 +4,7 @@ use Rattle.std.proofs.Common.{◌≡◌, refl, sym, ap, Bool, true, false, ◌&&
 use Rattle.positions.specs.Past.{Past, pat, empty, seq, alt, star}
 use Rattle.positions.specs.Summaries.{pat_summary, seq_summary, alt_summary, star_summary, summary, step_of}
 use Rattle.positions.specs.declared.summaries.Summary.{Summary}
-use Rattle.positions.proofs.SetLaws.{has_none}
+use Rattle.common.proofs.SetLaws.{has_none}
 
 -- nothing ends, and nothing moves
 abbrev Idle : Summary → Type 0

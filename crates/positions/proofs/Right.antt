@@ -6,9 +6,9 @@ use Rattle.positions.specs.Past.{Past, Sat}
 use Rattle.positions.specs.Numbers.{size}
 use Rattle.positions.specs.Matcher.{matches}
 use Rattle.positions.specs.Positions.{Follows, Matched}
-use Rattle.positions.specs.Sets.{has_at, shares}
+use Rattle.common.specs.Sets.{has_at, shares}
 use Rattle.positions.specs.Summaries.{summary, step_of, ends_of, Right}
-use Rattle.positions.proofs.SetLaws.{has_one}
+use Rattle.common.proofs.SetLaws.{has_one}
 use Rattle.positions.proofs.Following.{step_iff, matches_now_iff}
 use Rattle.positions.proofs.History.{after-start, after-step, now_iff, now_matches}
 use Rattle.positions.proofs.SummaryLaws.{step_same, match_same}

@@ -5,12 +5,12 @@ use Rattle.std.proofs.Math.Logic.Iff
 use Rattle.positions.specs.Past.{Past, pat, empty, seq, alt, star}
 use Rattle.positions.specs.Numbers.{size}
 use Rattle.positions.specs.Walk.{SetSummary, on_pat, on_empty, on_seq, on_alt, on_star, walk, step, matches_now, ends}
-use Rattle.positions.specs.Sets.{has_at, bit_of, only_if, shares}
+use Rattle.common.specs.Sets.{has_at, bit_of, only_if, shares}
 use Rattle.positions.specs.Summaries.{after, pat_summary, empty_summary, seq_summary, alt_summary, star_summary, summary, step_of, ends_of}
 use Rattle.positions.specs.declared.summaries.Summary.{Summary}
 use Rattle.common.proofs.Bools.{same_test}
 use Rattle.std.proofs.Math.Bool.{and_comm}
-use Rattle.positions.proofs.SetLaws.{has_none, has_or, has_only_if, has_bit, has_one, shares_iff, bits_below}
+use Rattle.common.proofs.SetLaws.{has_none, has_or, has_only_if, has_bit, has_one, shares_iff, bits_below}
 use Rattle.positions.proofs.Following.{matches_at_ends, ends_any, step-within}
 
 -- The numbers of s are the sets of u.

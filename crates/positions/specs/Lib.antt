@@ -3,5 +3,4 @@ pub mod Matcher
 pub mod Numbers
 pub mod Positions
 pub mod Walk
-pub mod Sets
 pub mod Summaries

@@ -4,7 +4,7 @@ use Rattle.std.specs.Prelude.{Bool, true, false, ◌&&◌, ◌||◌, cond, List,
 use Rattle.std.specs.Int.Bits.{bit_or}
 use Rattle.positions.specs.Past.{Past, pat, empty, seq, alt, star}
 use Rattle.positions.specs.Positions.{After}
-use Rattle.positions.specs.Sets.{has_at, bit_of, only_if}
+use Rattle.common.specs.Sets.{has_at, bit_of, only_if}
 use Rattle.positions.specs.declared.summaries.Summary.{Summary}
 
 -- The number after k. It stops at 65, so that a next number of at most 64 tells that all patterns have a bit, and 65 that some have none.
@@ -79,6 +79,6 @@ step_of m s = bit_or s.moved (only_if (has_at m 0) s.first)
 unfoldable pub ends_of : Summary → ℕ
 ends_of s = bit_or s.last (only_if s.nullable 1)
 
--- the number m is right for the past φ after the events l: its bits are document 01's marks
+-- the number m is right for the past φ after the events l: its bits are document 01's marks ("bit k is mark k")
 abbrev pub Right : {P A : Type 0} → (A → P → Bool) → Past P → List A → ℕ → Type 0
 Right meets φ l m = After meets φ l (has_at m)

@@ -2,7 +2,7 @@
 ghost use Rattle.std.specs.Prelude.{◌≡◌};
 ghost use Rattle.positions.specs.Summaries.{after, pat_summary, empty_summary, seq_summary, alt_summary, star_summary, step_of, ends_of};
 
-use crate::sets::{has, only_if, single};
+use common::sets::{has, only_if, single};
 
 // What the pass finds of a part of a past: the number of the pattern after it; whether it allows the empty list; whether a position held may
 // end it; the patterns that may begin it and that the event meets; those that the event leads to from a position held; those that may end it.

@@ -7,7 +7,7 @@ use Rattle.std.proofs.Math.Arith.{digits_mod, lt_of_le-ne}
 use Rattle.std.proofs.lemmas.Nat.{shl-shr, or_shr, and_shr}
 use Rattle.std.proofs.Math.Pow.{pow-lt, split}
 use lib.Bits.{or_step, and_step}
-use Rattle.positions.specs.Sets.{has_at, bit_of, only_if, shares}
+use Rattle.common.specs.Sets.{has_at, bit_of, only_if, shares}
 use Rattle.common.proofs.Bools.{and_both, and_left, and_right}
 
 -- a one moved up by less than 64 places

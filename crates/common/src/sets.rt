@@ -1,6 +1,6 @@
-// Sets of positions as numbers: bit k is position k.
+// Sets of numbers below 64, each as one number of 64 bits: bit k says whether k is in it.
 ghost use Rattle.std.specs.Prelude.{◌≡◌};
-ghost use Rattle.positions.specs.Sets.{has_at, bit_of, only_if, shares};
+ghost use Rattle.common.specs.Sets.{has_at, bit_of, only_if, shares};
 
 // Whether k is in the set m.
 pub fn has(m: u64, k: usize) -> bool

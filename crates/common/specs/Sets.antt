@@ -1,9 +1,9 @@
--- A set of positions as a number of 64 bits: bit k is position k.
+-- A set of numbers below 64 as a number of 64 bits: bit k says whether k is in it.
 -- Assumes nothing.
 use Rattle.std.specs.Prelude.{Bool, not, cond, ℕ, ◌/◌, ◌%◌, ◌^◌, eqb, ltb}
 use Rattle.std.specs.Int.Bits.{bit_and}
 
--- "bit k is mark k": k is in the set m
+-- k is in the set m
 abbrev pub has_at : ℕ → ℕ → Bool
 has_at m k = eqb (m / 2 ^ k % 2) 1
 
