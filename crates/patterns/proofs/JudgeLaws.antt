@@ -10,9 +10,9 @@ abbrev pub level : Bool → ℕ
 level true = 1
 level false = 0
 
-module _ (ps event code : List ℕ) (at : ℕ) (whole : Bool) (r : Judged) where
-  pub as_condition : whole ≡ true → ConditionRead ps event code at r → JudgeRead ps event code at whole r
+module _ (above event code : List ℕ) (at : ℕ) (whole : Bool) (r : Judged) where
+  pub as_condition : whole ≡ true → ConditionRead above event code at r → JudgeRead above event code at whole r
   as_condition e h = record { onwards = h.onwards; one = λ q. absurd (true_not_false whole e q); pattern = λ q. absurd (true_not_false whole e q); all = λ q. h }
 
-  pub as_term : whole ≡ false → TermRead ps event code at r → PatternRead ps event code at r → JudgeRead ps event code at whole r
+  pub as_term : whole ≡ false → TermRead above event code at r → PatternRead above event code at r → JudgeRead above event code at whole r
   as_term e h g = record { onwards = h.onwards; one = λ q. h; pattern = λ q. g; all = λ q. absurd (true_not_false whole q e) }

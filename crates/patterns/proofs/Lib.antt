@@ -1,4 +1,4 @@
-pub mod TableLaws
+pub mod AboveLaws
 pub mod Here
 pub mod ItemLaws
 pub mod TermLaws

@@ -1,22 +1,28 @@
--- The roles held as the code keeps them: role i has the parent at i of a table, and top is 0.
+-- The roles held as the code keeps them: top is 0; role i has the parent at i of a table, and at i of another the set of the roles above it, itself among them.
 -- Assumes nothing.
-use Rattle.std.specs.Prelude.{◌≡◌, Bool, true, false, cond, List, [], ◌∷◌, ℕ, zero, suc, ◌≤◌, ◌<◌, eqb, ltb, length, get_or}
+use Rattle.std.specs.Prelude.{◌≡◌, Bool, List, [], ◌∷◌, ℕ, zero, suc, ◌≤◌, ◌<◌, length, get_or}
+use Rattle.std.specs.Int.Bits.{bit_or}
+use Rattle.common.specs.Sets.{has_at, bit_of}
 use Rattle.patterns.specs.Roles.{Roles}
 
--- r is p or at most n steps of parents below it; a parent that does not stand before its child ends the way up
-unfoldable pub up_to : ℕ → List ℕ → ℕ → ℕ → Bool
-up_to zero ps r p = false
-up_to (suc n) ps r p = cond (eqb r p) true (cond (ltb r (length ps)) (cond (ltb (get_or ps r 0) r) (up_to n ps (get_or ps r 0) p) false) false)
+-- r is p or below it: p is in the set at r
+unfoldable pub below_by : List ℕ → ℕ → ℕ → Bool
+below_by above r p = has_at (get_or above r 0) p
 
--- the same with as many steps as there can be
-unfoldable pub below_in : List ℕ → ℕ → ℕ → Bool
-below_in ps r p = up_to (suc r) ps r p
+-- the set of a role n that joins: its parent's, and n itself
+abbrev pub joined_set : List ℕ → ℕ → ℕ → ℕ
+joined_set above n parent = bit_or (get_or above parent 0) (bit_of n)
 
 -- a table of n roles: top is 0, and every other role has its parent before it
 pub record Ordered (n : ℕ) (ps : List ℕ) : Type 0 where
   pub fits : n ≤ length ps
   pub top : get_or ps 0 0 ≡ 0
   pub up : (i : ℕ) → 0 < i → i < n → get_or ps i 0 < i
+
+-- the sets of the n roles of a table: top's has top alone, and every other role's is as when it joined under its parent
+pub record Gathered (n : ℕ) (ps above : List ℕ) : Type 0 where
+  pub top : get_or above 0 0 ≡ 1
+  pub up : (i : ℕ) → 0 < i → i < n → get_or above i 0 ≡ joined_set above i (get_or ps i 0)
 
 -- the roles of a table of n, with names for their ids, the last first
 abbrev pub roles_of : {N : Type 0} → (ℕ → N) → List ℕ → ℕ → Roles N
