@@ -4,7 +4,7 @@ use Rattle.std.specs.Prelude.{List, ℕ, ◌<◌, ◌≤◌, get_or}
 use Rattle.grammar.specs.Size.{size_past}
 use Rattle.common.specs.All.{All}
 use Rattle.patterns.specs.Meets.{meets}
-use Rattle.patterns.specs.Judged.{order_in}
+use Rattle.patterns.specs.Judged.{order_by}
 use Rattle.positions.specs.Summaries.{Right}
 use Rattle.follow.specs.Meaning.{past_meaning}
 use Rattle.follow.specs.Rules.{Tree, Keeps}
@@ -21,4 +21,4 @@ pub record FollowsPast (f : State) (i : ℕ) (t : Tree) (l : List (List ℕ)) : 
   pub keeps : Keeps (rule_at f.sheet i) t
   pub small : size_past t.past ≤ 63
   pub events : EventsHeld f.sheet.role_count l
-  pub right : Right (meets (order_in f.sheet.parents)) (past_meaning t.past) l (get_or f.positions i 0)
+  pub right : Right (meets (order_by f.sheet.above)) (past_meaning t.past) l (get_or f.positions i 0)

@@ -6,7 +6,7 @@ use Rattle.lexer.specs.Class.{among}
 use Rattle.grammar.specs.Trees.{Pattern}
 use Rattle.code.specs.Trees.{code_past, code_sequence, code_factor, code_base}
 use Rattle.patterns.specs.Meets.{meets}
-use Rattle.patterns.specs.Judged.{order_in}
+use Rattle.patterns.specs.Judged.{order_by}
 use Rattle.positions.specs.Past.{Past}
 use Rattle.positions.specs.Summaries.{summary, star_summary}
 use Rattle.positions.specs.declared.summaries.Summary.{Summary}
@@ -37,12 +37,12 @@ AfterSequence rest = AfterFactor rest × (starts (get_or rest 0 0) ≡ false)
 abbrev pub AfterPast : List ℕ → Type 0
 AfterPast rest = AfterSequence rest × (get_or rest 0 0 ≡ 43 → ⊥)
 
--- m: the positions held; ps: the table of parents; k: the number of the first pattern
-pub record WalkRead {T : Type 0} (code' : T → List ℕ) (meaning : T → Past (Pattern ℕ)) (Stop : List ℕ → Type 0) (m : ℕ) (ps event code : List ℕ) (at k : ℕ) (r : Walk) : Type 0 where
+-- m: the positions held; above: of each role the set of those above it; k: the number of the first pattern
+pub record WalkRead {T : Type 0} (code' : T → List ℕ) (meaning : T → Past (Pattern ℕ)) (Stop : List ℕ → Type 0) (m : ℕ) (above event code : List ℕ) (at k : ℕ) (r : Walk) : Type 0 where
   pub onwards : at ≤ r.end
   pub moves : at < length code → at < r.end
   pub right : (t : T) (rest : List ℕ) → Stop rest → drop at code ≡ code' t ++ rest
-      → (r.summary ≡ summary m (meets (order_in ps) event) (meaning t) k) × (r.end ≡ at + length (code' t))
+      → (r.summary ≡ summary m (meets (order_by above) event) (meaning t) k) × (r.end ≡ at + length (code' t))
 
 -- the promise at each level
 abbrev pub BaseRead : ℕ → List ℕ → List ℕ → List ℕ → ℕ → ℕ → Walk → Type 0

@@ -12,7 +12,7 @@ pub struct Walk {
     pub summary: Summary,
 }
 
-// What a pass reads: the past's code with the event and the parents of roles, and the positions held before the event.
+// What a pass reads: the past's code with the event and the sets of the roles above, and the positions held before the event.
 // Kept: places in the code are numbers. Where the trigger stands, one after the past's end, is kept as a byte of the rule's row.
 #[derive(Clone, Copy)]
 pub struct Step<'a> {
@@ -56,7 +56,7 @@ impl Step<'_> {
     // A base: a pattern, (), or a past in round brackets.
     #[cycle(base_factor_past_sequence)]
     fn base(&self, at: usize, k: usize) -> Walk
-        ensures { BaseRead self.now.positions self.now.matcher.parents.now self.now.matcher.event.now self.now.matcher.code.now at k result }
+        ensures { BaseRead self.now.positions self.now.matcher.above.now self.now.matcher.event.now self.now.matcher.code.now at k result }
     {
         if !stands(self.matcher.code, at, b'(') {
             let judged = self.matcher.pattern(at);
@@ -87,7 +87,7 @@ impl Step<'_> {
     // A factor: a base and its stars.
     #[cycle(base_factor_past_sequence)]
     fn factor(&self, at: usize, k: usize) -> Walk
-        ensures { FactorRead self.now.positions self.now.matcher.parents.now self.now.matcher.event.now self.now.matcher.code.now at k result }
+        ensures { FactorRead self.now.positions self.now.matcher.above.now self.now.matcher.event.now self.now.matcher.code.now at k result }
     {
         let base = self.base(at, k);
         stars(self.matcher.code, base)
@@ -96,7 +96,7 @@ impl Step<'_> {
     // A sequence: factors side by side.
     #[cycle(base_factor_past_sequence)]
     fn sequence(&self, at: usize, k: usize) -> Walk
-        ensures { SequenceRead self.now.positions self.now.matcher.parents.now self.now.matcher.event.now self.now.matcher.code.now at k result }
+        ensures { SequenceRead self.now.positions self.now.matcher.above.now self.now.matcher.event.now self.now.matcher.code.now at k result }
     {
         let factor = self.factor(at, k);
         if !starts(self.matcher.code, factor.end) {
@@ -113,7 +113,7 @@ impl Step<'_> {
     // A past from at on, its patterns numbered from k on.
     #[cycle(base_factor_past_sequence)]
     pub fn past(&self, at: usize, k: usize) -> Walk
-        ensures { PastRead self.now.positions self.now.matcher.parents.now self.now.matcher.event.now self.now.matcher.code.now at k result }
+        ensures { PastRead self.now.positions self.now.matcher.above.now self.now.matcher.event.now self.now.matcher.code.now at k result }
     {
         let sequence = self.sequence(at, k);
         if !stands(self.matcher.code, sequence.end, b'+') {
