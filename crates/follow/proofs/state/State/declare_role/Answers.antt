@@ -18,4 +18,4 @@ pub returns-then-at-ge-MAX_ROLES : goal.returns-then-at-ge-MAX_ROLES
 returns-then-at-ge-MAX_ROLES c = role_8 _ _ (sym c.if-is_taken.false ∙ c.is_taken.ensures) _ (c.min.ensures ∙ capped-min _ _) _ c.in-Some.is c.if-min-parent.false c.if-at-ge-MAX_ROLES.true
 
 pub returns : goal.returns
-returns c = role_0 _ _ (sym c.if-is_taken.false ∙ c.is_taken.ensures) _ (c.min.ensures ∙ capped-min _ _) _ c.in-Some.is c.if-min-parent.false c.if-at-ge-MAX_ROLES.false
+returns c = rw c.single.ensures (role_0 _ _ (sym c.if-is_taken.false ∙ c.is_taken.ensures) _ (c.min.ensures ∙ capped-min _ _) _ c.in-Some.is c.if-min-parent.false c.if-at-ge-MAX_ROLES.false)
