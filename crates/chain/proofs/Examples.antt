@@ -3,7 +3,7 @@
 use Rattle.std.proofs.Common.{◌≡◌, refl, true, List, [], ◌∷◌, ◌++◌, ℕ, suc, replicate}
 use Rattle.grammar.specs.Trees.{Pattern, plain, items, item, exact, close, any_event, Response, pass, hold, send, anew, named, place}
 use Rattle.patterns.specs.Meets.{items_meet, meets}
-use Rattle.patterns.specs.Judged.{order_in}
+use Rattle.patterns.specs.Judged.{order_by}
 use Rattle.chain.specs.Work.{Outcome, committed, held, unfit, too_long, Duty, fill_slot, fill, chain, respond, work, work_event}
 
 -- a rule whose past matches now
@@ -29,7 +29,7 @@ declared i [] ds = ds
 declared i (g ∷ gs) ds = declared (suc i) gs (record { rule = i; matched = true; trigger = g.trigger; response = g.response } ∷ ds)
 
 abbrev run : List Matched → List ℕ → Outcome ℕ ℕ
-run gs e = work_event (order_in []) (declared 0 gs []) e
+run gs e = work_event (order_by []) (declared 0 gs []) e
 
 abbrev sends : Matched
 sends = rule expose (send (named 3 ∷ named 2 ∷ []))

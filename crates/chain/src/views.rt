@@ -4,15 +4,15 @@ ghost use Rattle.chain.specs.Duties.{seen, view_of};
 
 use follow::State;
 
-// A state's rules as the chain reads them: their rows, ends and positions, the table of parents, and how many rules there are. The slices may have any
-// lengths and hold anything.
+// A state's rules as the chain reads them: their rows, ends and positions, the sets of the roles above, and how many rules there are. The slices may
+// have any lengths and hold anything.
 // Kept: slices side by side, as they are the state's own arrays, lent; the functions took them one by one, of any lengths, and ask no more now.
 #[derive(Clone, Copy)]
 pub struct View<'a> {
     pub rows: &'a [u8],
     pub ends: &'a [u64],
     pub positions: &'a [u64],
-    pub parents: &'a [u8],
+    pub above: &'a [u64],
     pub count: usize,
 }
 
@@ -25,7 +25,7 @@ impl<'a> From<&'a State> for View<'a> {
             rows: &state.sheet.rows,
             ends: &state.sheet.ends,
             positions: &state.positions,
-            parents: &state.sheet.parents,
+            above: &state.sheet.above,
             count: state.sheet.rule_count,
         }
     }
