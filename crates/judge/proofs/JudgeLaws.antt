@@ -51,12 +51,12 @@ module _ (l : Lent) (i : ℕ) (s : List ℕ) where
   unfolding judge_of
   judged_part h w = record { right = λ f e t rep. let d = found f e t rep h in rw (d.2, w) refl }
 
-  pub judged_list : i < l.rules → is_whole s ≡ true → (r : Verdict) → ListJudged (state.rule_in l.rows l.ends i) 1 s (take l.roles l.names) l.parents r → Judged l i s r
+  pub judged_list : i < l.rules → is_whole s ≡ true → (r : Verdict) → ListJudged (state.rule_in l.rows l.ends i) 1 s (take l.roles l.names) l.above r → Judged l i s r
   unfolding judge_of
   judged_list h w r j =
       record {
         right = λ f e t rep.
             let d = found f e t rep h in
             rw (d.2, w)
-            (j.right f (ap (λ (k : Lent). take k.roles k.names) e) (ap (λ (k : Lent). k.parents) e) t rep i d.0 d.1 (ap (λ (k : Lent). state.rule_in k.rows k.ends i) e) [] refl (length s / 128) (true_whole s w).size);
+            (j.right f (ap (λ (k : Lent). take k.roles k.names) e) (ap (λ (k : Lent). k.above) e) t rep i d.0 d.1 (ap (λ (k : Lent). state.rule_in k.rows k.ends i) e) [] refl (length s / 128) (true_whole s w).size);
       }

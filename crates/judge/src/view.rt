@@ -4,13 +4,14 @@ ghost use Rattle.judge.specs.Judging.{lent_by, lent_of};
 
 use follow::Sheet;
 
-// All of a sheet but the names of its rules, lent: the first `roles` names and parents count, and the first `rules` rows and ends.
+// All of a sheet but the table of parents and the names of its rules, lent: the first `roles` names and sets of roles above count, and the first `rules` rows
+// and ends.
 // Kept: slices side by side, as they are the sheet's own arrays, lent; the judge took them one by one, of any lengths, and asks no more now.
 #[derive(Clone, Copy)]
 pub struct SheetView<'a> {
     pub names: &'a [u64],
     pub roles: usize,
-    pub parents: &'a [u8],
+    pub above: &'a [u64],
     pub rows: &'a [u8],
     pub ends: &'a [u64],
     pub rules: usize,
@@ -24,7 +25,7 @@ impl<'a> From<&'a Sheet> for SheetView<'a> {
         SheetView {
             names: &sheet.names,
             roles: sheet.role_count,
-            parents: &sheet.parents,
+            above: &sheet.above,
             rows: &sheet.rows,
             ends: &sheet.ends,
             rules: sheet.rule_count,

@@ -7,4 +7,4 @@ use Rattle.judge.proofs.view.SheetView.run.Given as goal
 
 abbrev pub invariant-loop-record : goal.invariant-loop-record
 invariant-loop-record l =
-    Judging (rule_from l.row l.ends) l.records (take l.self.roles l.self.names.now) l.self.parents.now l.record-iterator.size l.positions l.record-iterator.rest.now
+    Judging (rule_from l.row l.ends) l.records (take l.self.roles l.self.names.now) l.self.above.now l.record-iterator.size l.positions l.record-iterator.rest.now
