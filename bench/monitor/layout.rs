@@ -9,6 +9,7 @@ struct Sheet {
     rule_count: usize,
     names: [u64; 64],
     parents: [u8; 64],
+    above: [u64; 64],
     rule_names: [u64; 32],
     ends: [u64; 32],
     rows: [u8; 4096],

@@ -7,6 +7,7 @@ use Rattle.lexer.proofs.SameLaws.{same_refl}
 use Rattle.names.specs.Name.{packed}
 use Rattle.names.proofs.UnpackedLaws.{unpacked-name}
 use Rattle.patterns.specs.Roles.{top_name}
+use Rattle.patterns.proofs.AboveLaws.{gathered_top}
 use Rattle.follow.specs.State.{fresh_state}
 use Rattle.follow.specs.declared.state.Sheet.{Sheet}
 use Rattle.follow.specs.declared.state.State.{State}
@@ -37,6 +38,7 @@ naming =
       word = λ i l. subst (λ (k : ℕ). NameWord (name_at fresh k)) (first i l) (subst NameWord (sym top-is) top-word);
       distinct = λ i j l m. subst (λ (k : ℕ). same (name_at fresh k) (name_at fresh j) ≡ eqb k j) (first i l) (subst (λ (k : ℕ). same (name_at fresh 0) (name_at fresh k) ≡ eqb 0 k) (first j m) (same_refl (name_at fresh 0)));
       ordered = record { fits = omega arith; top = refl; up = λ i p l. absurd (omega arith) };
+      gathered = gathered_top fresh.parents fresh.above refl;
     }
 
 -- the state with `top` and no rule represents the fresh machine

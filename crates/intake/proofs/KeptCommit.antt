@@ -9,7 +9,7 @@ use Rattle.grammar.specs.Names.{rule_names, past_names, pattern_names}
 use Rattle.common.specs.All.{All}
 use Rattle.common.proofs.AllLaws.{all_left}
 use Rattle.patterns.specs.Meets.{meets, order_of}
-use Rattle.patterns.specs.Judged.{order_in}
+use Rattle.patterns.specs.Judged.{order_by}
 use Rattle.patterns.proofs.TableNames.{meets-same}
 use Rattle.positions.specs.Summaries.{summary, step_of}
 use Rattle.follow.specs.Meaning.{past_meaning}
@@ -29,19 +29,19 @@ use Rattle.intake.proofs.RuleSizes.{rule-small}
 module _ (f : State) (t : PositionMachine) (rep : Represents f t) (e : List ℕ) (es : All (λ i. i < f.sheet.role_count) e) where
   -- what the code judges of ids is what the machine judges of names
   judged : (p : trees.Pattern ℕ) → All (λ i. i < f.sheet.role_count) (pattern_names p)
-      → meets (order_of same t.roles) (map (name_at f.sheet) e) (map_pattern (name_at f.sheet) p) ≡ meets (order_in f.sheet.parents) e p
+      → meets (order_of same t.roles) (map (name_at f.sheet) e) (map_pattern (name_at f.sheet) p) ≡ meets (order_by f.sheet.above) e p
   judged p h =
       ap (λ (rs : NamedRoles). meets (order_of same rs) (map (name_at f.sheet) e) (map_pattern (name_at f.sheet) p)) rep.roles
-      ∙ meets-same same (name_at f.sheet) f.sheet.parents f.sheet.role_count rep.naming.ordered (λ i j h k. rep.naming.distinct i j h k) e es p h
+      ∙ meets-same same (name_at f.sheet) f.sheet.parents f.sheet.above f.sheet.role_count rep.naming.few rep.naming.ordered rep.naming.gathered (λ i j h k. rep.naming.distinct i j h k) e es p h
 
   -- the positions after one event more, from any positions m
-  pub step_same : (i : ℕ) (r : Rule) → RuleIs f.sheet i r → (m w : ℕ) → RuleStepped (code_of (rule_at f.sheet i).row) m e f.sheet.parents w → w ≡ step_number t.roles r.past m (map (name_at f.sheet) e)
+  pub step_same : (i : ℕ) (r : Rule) → RuleIs f.sheet i r → (m w : ℕ) → RuleStepped (code_of (rule_at f.sheet i).row) m e f.sheet.above w → w ≡ step_number t.roles r.past m (map (name_at f.sheet) e)
   unfolding step_number rule_names
   step_same i r x m w h =
       let names : All (λ j. j < f.sheet.role_count) (past_names x.tree.past) = all_left (λ j. j < f.sheet.role_count) (past_names x.tree.past) _ x.ids in
       h.right x.tree x.keeps.spelled
       ∙ ap (step_of m)
-      (sym (summary-map (name_at f.sheet) (λ j. j < f.sheet.role_count) m (meets (order_in f.sheet.parents) e) (meets (order_of same t.roles) (map (name_at f.sheet) e)) judged x.tree.past names 1)
+      (sym (summary-map (name_at f.sheet) (λ j. j < f.sheet.role_count) m (meets (order_by f.sheet.above) e) (meets (order_of same t.roles) (map (name_at f.sheet) e)) judged x.tree.past names 1)
       ∙ ap (λ (p : trees.Past Name). summary m (meets (order_of same t.roles) (map (name_at f.sheet) e)) (past_meaning p) 1) (sym x.past))
 
 module _ (f g : State) (t : PositionMachine) (rep : Represents f t) (e : List ℕ) (es : All (λ i. i < f.sheet.role_count) e) (c : Committed f e g) where

@@ -15,7 +15,7 @@ use Rattle.common.proofs.AllLaws.{all_left, all_right, all_map}
 use Rattle.patterns.specs.Roles.{Roles, is_held}
 use Rattle.patterns.specs.Table.{Ordered, roles_of}
 use Rattle.patterns.proofs.RenameAgree.{past_agree, pattern_agree, response_agree}
-use Rattle.patterns.proofs.TableNames.{split}
+use Rattle.patterns.proofs.AboveLaws.{split, gathered_joined}
 use Rattle.follow.specs.State.{add_role, join_role}
 use Rattle.follow.specs.declared.state.Sheet.{Sheet}
 use Rattle.follow.specs.declared.state.State.{State}
@@ -34,7 +34,7 @@ roles_agree nm mm ps qs (suc n) h k l =
     let c : roles_of nm ps n ≡ roles_of mm qs n = roles_agree nm mm ps qs n (λ i m. h i (omega arith)) (λ i m. k i (omega arith)) (λ i m. l i (omega arith)) in
     λ j. record { name = a j; parent = b j } ∷ c j
 
-module _ (s : Sheet) (n : Naming s) (long : length s.names ≡ 64) (long-parents : length s.parents ≡ 64) (w : Name) (a : NameWord w) (p : ℕ) (h : p < s.role_count)
+module _ (s : Sheet) (n : Naming s) (long : length s.names ≡ 64) (long-parents : length s.parents ≡ 64) (long-above : length s.above ≡ 64) (w : Name) (a : NameWord w) (p : ℕ) (h : p < s.role_count)
     (room : s.role_count < max_roles) (free : is_held same (roles_in s) w ≡ false) where
   abbrev after : Sheet
   after = add_role s (packed w) p
@@ -117,6 +117,7 @@ module _ (s : Sheet) (n : Naming s) (long : length s.names ≡ 64) (long-parents
         word = λ i k. (told i k).1;
         distinct = distinct;
         ordered = ordered;
+        gathered = gathered_joined s.role_count s.parents s.above n.ordered n.gathered n.some (omega (arith, long-parents)) (omega (arith, long-above)) p h;
       }
 
   -- a parent stands before its child
@@ -161,7 +162,7 @@ module _ (f : State) (z : Sized f) (t : PositionMachine) (rep : Represents f t) 
   rules-kept zero [] rules-none = rules-none
   rules-kept (suc k) (x ∷ l) (rules-more y ys) =
       rules-more
-      (record { rule = rule-kept f.sheet rep.naming z.names z.parents w a p h room unnamed k x.rule y.rule; positions = y.positions; within = y.within })
+      (record { rule = rule-kept f.sheet rep.naming z.names z.parents z.above w a p h room unnamed k x.rule y.rule; positions = y.positions; within = y.within })
       (rules-kept k l ys)
   rules-kept zero (x ∷ l) x3 = elim x3 [ ]
   rules-kept (suc k) [] x3 = elim x3 [ ]
@@ -169,8 +170,8 @@ module _ (f : State) (z : Sized f) (t : PositionMachine) (rep : Represents f t) 
   pub kept-role : Represents (join_role f (packed w) p) (with_role t w (name_at f.sheet p))
   kept-role =
       record {
-        naming = naming f.sheet rep.naming z.names z.parents w a p h room unnamed;
+        naming = naming f.sheet rep.naming z.names z.parents z.above w a p h room unnamed;
         few = rep.few;
-        roles = rw rep.roles (roles f.sheet rep.naming z.names z.parents w a p h room unnamed);
+        roles = rw rep.roles (roles f.sheet rep.naming z.names z.parents z.above w a p h room unnamed);
         rules = rules-kept f.sheet.rule_count t.rules rep.rules;
       }

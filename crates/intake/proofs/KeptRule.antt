@@ -83,7 +83,7 @@ module _ (f : State) (z : Sized f) (t : PositionMachine) (rep : Represents f t) 
   naming : Naming after
   naming =
       let n = rep.naming in
-      record { few = n.few; there = n.there; some = n.some; packed = n.packed; word = n.word; distinct = n.distinct; ordered = n.ordered }
+      record { few = n.few; there = n.there; some = n.some; packed = n.packed; word = n.word; distinct = n.distinct; ordered = n.ordered; gathered = n.gathered }
 
   pub kept_rule : Represents (join_rule f name rule) (with_rule t r)
   kept_rule =

@@ -13,7 +13,7 @@ use Rattle.grammar.specs.Lines.{Says}
 use Rattle.names.specs.Name.{packed}
 use Rattle.names.specs.Unpacked.{unpacked}
 use Rattle.common.specs.All.{All}
-use Rattle.patterns.specs.Table.{Ordered, roles_of}
+use Rattle.patterns.specs.Table.{Ordered, Gathered, roles_of}
 use Rattle.follow.specs.Rules.{Tree, Short, Keeps}
 use Rattle.follow.specs.State.{rule_at}
 pub use Rattle.follow.specs.State.{Sized}
@@ -26,6 +26,7 @@ use Rattle.intake.specs.Machine.{PositionRule, PositionMachine}
 pub record SheetSized (s : Sheet) : Type 0 where
   pub names : length s.names ≡ 64
   pub parents : length s.parents ≡ 64
+  pub above : length s.above ≡ 64
   pub rule-names : length s.rule_names ≡ 32
   pub ends : length s.ends ≡ 32
   pub rows : length s.rows ≡ 4096
@@ -49,7 +50,7 @@ pub record NameWord (w : Name) : Type 0 where
   pub name : kind_of w ≡ name_k
   pub wordy : Wordy w
 
--- the roles: distinct names, each parent before its child
+-- the roles: distinct names, each parent before its child, and of each role the set of those above it
 pub record Naming (s : Sheet) : Type 0 where
   pub few : s.role_count ≤ max_roles
   pub there : s.role_count ≤ length s.names
@@ -58,6 +59,7 @@ pub record Naming (s : Sheet) : Type 0 where
   pub word : (i : ℕ) → i < s.role_count → NameWord (name_at s i)
   pub distinct : (i j : ℕ) → i < s.role_count → j < s.role_count → same (name_at s i) (name_at s j) ≡ eqb i j
   pub ordered : Ordered s.role_count s.parents
+  pub gathered : Gathered s.role_count s.parents s.above
 
 -- the roles by their names, the last declared first
 abbrev pub roles_in : Sheet → Roles

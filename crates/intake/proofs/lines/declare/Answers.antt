@@ -10,7 +10,7 @@ use Rattle.intake.proofs.lines.declare.Goals as goal
 
 -- the arrays' lengths, by their types
 sized : (f : State) → SheetSized f.sheet → length f.positions ≡ 32 → Sized f
-sized f s p = record { names = s.names; parents = s.parents; rule-names = s.rule-names; ends = s.ends; rows = s.rows; positions = p }
+sized f s p = record { names = s.names; parents = s.parents; above = s.above; rule-names = s.rule-names; ends = s.ends; rows = s.rows; positions = p }
 
 pub returns-in-Some-Role : goal.returns-in-Some-Role
 returns-in-Some-Role c =
