@@ -1,6 +1,8 @@
 -- Each level begins with a byte that starts a base.
 -- Assumes nothing.
-use Rattle.std.proofs.Common.{◌≡◌, refl, ap, ◌∙◌, true, List, ◌∷◌, ◌++◌, ℕ, ◌≤◌, length, get_or, drop, replicate}
+use Rattle.std.proofs.Common.{◌≡◌, refl, ap, ◌∙◌, Bool, true, false, ltb, ltb-true, ltb-false, List, ◌∷◌, ◌++◌, ℕ, ◌≤◌, ◌<◌, length, get_or, drop, replicate}
+use Rattle.std.proofs.Math.ListN.{get_or-eq_default}
+use Rattle.common.proofs.Bools.{true_not_false}
 use Rattle.grammar.specs.Trees.{Pattern, plain, bracketed, any_event, items, Past, only, either, Sequence, single, beside, Factor, starred, Base, pattern, nothing, group}
 use Rattle.code.specs.Trees.{code_simple, code_pattern, code_past, code_sequence, code_factor, code_base}
 use Rattle.patterns.proofs.Here.{none, here}
@@ -47,3 +49,11 @@ nowhere code at l h n e = none code at h.byte h.tail n (e ∙ h.is)
 
 pub starts_here : (code : List ℕ) (at : ℕ) (l : List ℕ) → Head l → drop at code ≡ l → starts (get_or code at 0) ≡ true
 starts_here code at l h e = ap starts (here code at h.byte h.tail (e ∙ h.is)).byte ∙ h.start
+
+-- where a byte starts a base, it stands in the code: past the end there is none
+pub starts_within : (code : List ℕ) (at : ℕ) → starts (get_or code at 0) ≡ true → at < length code
+starts_within code at h = go (ltb at (length code)) refl
+  where
+    go : (t : Bool) → ltb at (length code) ≡ t → at < length code
+    go true e = ltb-true at (length code) e
+    go false e = absurd (true_not_false _ h (ap starts (get_or-eq_default code 0 (ltb-false at (length code) e))))

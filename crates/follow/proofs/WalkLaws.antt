@@ -1,21 +1,21 @@
--- What each way through `base`, `factor`, `sequence` and `past` shows.
+-- What each way through `base` and `factor` shows.
 -- Assumes nothing.
-use Rattle.std.proofs.Common.{◌≡◌, refl, sym, ap, ◌∙◌, Bool, true, false, List, [], ◌∷◌, ◌++◌, append_assoc, ℕ, zero, suc, ◌+◌, ◌≤◌, arith, length, get_or, drop, replicate, length-append}
+use Rattle.std.proofs.Common.{◌≡◌, refl, sym, ap, ◌∙◌, Bool, List, [], ◌∷◌, ◌++◌, append_assoc, ℕ, zero, suc, ◌+◌, ◌≤◌, arith, length, get_or, drop, replicate, length-append}
 use Rattle.std.proofs.lemmas.List.{length-replicate}
 use Rattle.common.proofs.Bools.{true_not_false}
-use Rattle.grammar.specs.Trees.{Pattern, plain, bracketed, any_event, items, Past, only, either, Sequence, single, beside, Factor, starred, Base, pattern, nothing, group}
-use Rattle.code.specs.Trees.{code_simple, code_pattern, code_past, code_sequence, code_factor, code_base}
+use Rattle.grammar.specs.Trees.{Pattern, plain, bracketed, any_event, items, Past, Factor, starred, Base, pattern, nothing, group}
+use Rattle.code.specs.Trees.{code_simple, code_pattern, code_past, code_factor, code_base}
 use Rattle.patterns.specs.Meets.{meets}
 use Rattle.patterns.specs.Judged.{order_by, PatternRead}
 use Rattle.patterns.specs.declared.judge.Judged.{Judged}
-use Rattle.patterns.proofs.Here.{none, here, beyond, first}
+use Rattle.patterns.proofs.Here.{none, here, beyond}
 use Rattle.positions.specs.Past as meaning
-use Rattle.positions.specs.Summaries.{summary, empty_summary, pat_summary, seq_summary, alt_summary}
+use Rattle.positions.specs.Summaries.{summary, empty_summary, pat_summary}
 use Rattle.positions.specs.declared.summaries.Summary.{Summary}
-use Rattle.follow.specs.Meaning.{stars_on, past_meaning, sequence_meaning, factor_meaning, base_meaning}
-use Rattle.follow.specs.Walked.{starts, again, AfterBase, AfterFactor, AfterSequence, AfterPast, StarsRead, BaseRead, FactorRead, SequenceRead, PastRead}
+use Rattle.follow.specs.Meaning.{stars_on, past_meaning, factor_meaning, base_meaning}
+use Rattle.follow.specs.Walked.{starts, again, AfterBase, AfterFactor, StarsRead, BaseRead, FactorRead, PastRead}
 use Rattle.follow.specs.declared.walk.Walk.{Walk}
-use Rattle.follow.proofs.Heads.{longer, sequence_head, past_head, starts_here}
+use Rattle.follow.proofs.Heads.{longer, past_head, starts_here}
 
 -- no pattern begins with a round bracket
 not_round : (code : List ℕ) (at : ℕ) (p : Pattern ℕ) (rest : List ℕ) → drop at code ≡ code_pattern p ++ rest → get_or code at 0 ≡ 40 → ⊥
@@ -88,70 +88,3 @@ module _ (m : ℕ) (above event code : List ℕ) (at k : ℕ) where
             g.0 ∙ ap (again n) d.0 ∙ sym (starred-summary m (meets (order_by above) event) n (base_meaning b) k),
             omega (arith, d.1, g.1, length-append (code_base b) (replicate n 42), length-replicate {A = ℕ} n 42),
           )
-
-  -- ---- a sequence begins with a factor
-  module _ (f : Walk) (it : FactorRead m above event code at k f) where
-    at_more : (x : Factor ℕ) (s : Sequence ℕ) (rest : List ℕ) → drop at code ≡ (code_factor x ++ code_sequence s) ++ rest
-        → (f.summary ≡ summary m (meets (order_by above) event) (factor_meaning x) k) × (f.end ≡ at + length (code_factor x)) × (drop f.end code ≡ code_sequence s ++ rest)
-    at_more x s rest e =
-        let q : drop at code ≡ code_factor x ++ (code_sequence s ++ rest) = e ∙ append_assoc (code_factor x) (code_sequence s) rest in
-        let h = longer (code_sequence s) rest (sequence_head s) in
-        let d = it.right x _ (λ z. true_not_false _ (ap (λ (l : List ℕ). starts (get_or l 0 0)) h.is ∙ h.start) (ap starts z)) q in
-        (d.0, d.1, beyond code at f.end (code_factor x) _ q d.1)
-
-    pub end-seq : starts (get_or code f.end 0) ≡ false → SequenceRead m above event code at k f
-    unfolding code_sequence sequence_meaning
-    end-seq b = record { onwards = it.onwards; moves = it.moves; right = go }
-      where
-        go : (s : Sequence ℕ) (rest : List ℕ) → AfterSequence rest → drop at code ≡ code_sequence s ++ rest → (f.summary ≡ summary m (meets (order_by above) event) (sequence_meaning s) k) × (f.end ≡ at + length (code_sequence s))
-        go (single x) rest a e = it.right x rest a.0 e
-        go (beside x s) rest a e = absurd (true_not_false _ (starts_here code f.end _ (longer (code_sequence s) rest (sequence_head s)) (at_more x s rest e).2) b)
-
-    pub more-seq : starts (get_or code f.end 0) ≡ true → (s : Walk) → SequenceRead m above event code f.end f.summary.next s → (u : Summary) → u ≡ seq_summary f.summary s.summary
-        → SequenceRead m above event code at k (record { end = s.end; summary = u })
-    unfolding code_sequence sequence_meaning summary
-    more-seq b s is u eu = record { onwards = let p = it.onwards in let p' = is.onwards in omega arith; moves = λ h. let p = it.moves h in let p' = is.onwards in omega arith; right = go }
-      where
-        go : (t : Sequence ℕ) (rest : List ℕ) → AfterSequence rest → drop at code ≡ code_sequence t ++ rest → (u ≡ summary m (meets (order_by above) event) (sequence_meaning t) k) × (s.end ≡ at + length (code_sequence t))
-        go (single x) rest a e =
-            let d = it.right x rest a.0 e in
-            absurd (true_not_false _ (ap starts (sym (first code f.end rest (beyond code at f.end (code_factor x) rest e d.1))) ∙ b) a.1)
-        go (beside x y) rest a e =
-            let d = at_more x y rest e in
-            let g = is.right y rest a d.2 in (
-              eu ∙ ap (λ (z : Summary). seq_summary f.summary z) g.0 ∙ ap (λ (z : Summary). seq_summary z (summary m (meets (order_by above) event) (sequence_meaning y) z.next)) d.0,
-              omega (arith, d.1, g.1, length-append (code_factor x) (code_sequence y)),
-            )
-
-  -- ---- a past begins with a sequence
-  module _ (s : Walk) (it : SequenceRead m above event code at k s) where
-    at_either : (x : Sequence ℕ) (p : Past ℕ) (rest : List ℕ) → drop at code ≡ (code_sequence x ++ (43 ∷ code_past p)) ++ rest
-        → (s.summary ≡ summary m (meets (order_by above) event) (sequence_meaning x) k) × (s.end ≡ at + length (code_sequence x)) × (drop s.end code ≡ 43 ∷ (code_past p ++ rest))
-    at_either x p rest e =
-        let q : drop at code ≡ code_sequence x ++ (43 ∷ (code_past p ++ rest)) = e ∙ append_assoc (code_sequence x) (43 ∷ code_past p) rest in
-        let d = it.right x _ ((λ z. absurd (omega arith)), refl) q in
-        (d.0, d.1, beyond code at s.end (code_sequence x) _ q d.1)
-
-    pub end-past : (get_or code s.end 0 ≡ 43 → ⊥) → PastRead m above event code at k s
-    unfolding code_past past_meaning
-    end-past b = record { onwards = it.onwards; moves = it.moves; right = go }
-      where
-        go : (p : Past ℕ) (rest : List ℕ) → AfterPast rest → drop at code ≡ code_past p ++ rest → (s.summary ≡ summary m (meets (order_by above) event) (past_meaning p) k) × (s.end ≡ at + length (code_past p))
-        go (only x) rest a e = it.right x rest a.0 e
-        go (either x p) rest a e = absurd (b (here code s.end _ _ (at_either x p rest e).2).byte)
-
-    pub either-past : get_or code s.end 0 ≡ 43 → (r : Walk) → PastRead m above event code (s.end + 1) s.summary.next r → (u : Summary) → u ≡ alt_summary s.summary r.summary
-        → PastRead m above event code at k (record { end = r.end; summary = u })
-    unfolding code_past past_meaning summary
-    either-past b r ir u eu = record { onwards = let p = it.onwards in let p' = ir.onwards in omega arith; moves = λ h. let p = it.moves h in let p' = ir.onwards in omega arith; right = go }
-      where
-        go : (t : Past ℕ) (rest : List ℕ) → AfterPast rest → drop at code ≡ code_past t ++ rest → (u ≡ summary m (meets (order_by above) event) (past_meaning t) k) × (r.end ≡ at + length (code_past t))
-        go (only x) rest a e =
-            let d = it.right x rest a.0 e in
-            absurd (a.1 (sym (first code s.end rest (beyond code at s.end (code_sequence x) rest e d.1)) ∙ b))
-        go (either x p) rest a e =
-            let d = at_either x p rest e in
-            let g = ir.right p rest a (here code s.end _ _ d.2).next in (
-              eu ∙ ap (λ (z : Summary). alt_summary s.summary z) g.0 ∙ ap (λ (z : Summary). alt_summary z (summary m (meets (order_by above) event) (past_meaning p) z.next)) d.0,
-              omega (arith, d.1, g.1, length-append (code_sequence x) (43 ∷ code_past p)),
-            )

@@ -62,6 +62,11 @@ abbrev pub again : ℕ → Summary → Summary
 again zero s = s
 again (suc n) s = again n (star_summary s)
 
+-- where the stars from a place on end
+pub record StarsEnd (code : List ℕ) (at r : ℕ) : Type 0 where
+  pub onwards : at ≤ r
+  pub right : (n : ℕ) (rest : List ℕ) → AfterFactor rest → drop at code ≡ replicate n 42 ++ rest → r ≡ at + n
+
 -- the stars after a base
 pub record StarsRead (code : List ℕ) (w r : Walk) : Type 0 where
   pub onwards : w.end ≤ r.end

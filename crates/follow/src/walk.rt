@@ -1,6 +1,6 @@
-// One pass over a past's code for one event. The four levels call one another; what falls is the code left, and then the level.
+// One pass over a past's code for one event. The four levels call one another, and a sequence loops over its factors; what falls is the code left, and then the level.
 ghost use Rattle.std.specs.Prelude.{◌≡◌, get_or};
-ghost use Rattle.follow.specs.Walked.{stands_at, starts, StarsRead, BaseRead, FactorRead, SequenceRead, PastRead};
+ghost use Rattle.follow.specs.Walked.{stands_at, starts, StarsEnd, StarsRead, BaseRead, FactorRead, SequenceRead, PastRead};
 
 use patterns::Matcher;
 use positions::Summary;
@@ -35,21 +35,29 @@ fn starts(code: &[u8], at: usize) -> bool
     matches!(code.get(at), Some(b'a' | b'<' | b'[' | b'('))
 }
 
-// The stars after a base.
+// Where the stars from a place of the code on end.
+fn stars_end(code: &[u8], at: usize) -> usize
+    ensures { StarsEnd code.now at result }
+{
+    let mut end = at;
+    while stands(code, end, b'*') {
+        end += 1;
+    }
+    end
+}
+
+// The stars after a base. One says as much as many.
 fn stars(code: &[u8], walk: Walk) -> Walk
     ensures { StarsRead code.now walk result }
 {
-    if !stands(code, walk.end, b'*') {
+    let end = stars_end(code, walk.end);
+    if end == walk.end {
         return walk;
     }
-    let summary = walk.summary.repeated();
-    stars(
-        code,
-        Walk {
-            end: walk.end + 1,
-            summary,
-        },
-    )
+    Walk {
+        end,
+        summary: walk.summary.repeated(),
+    }
 }
 
 impl Step<'_> {
@@ -93,21 +101,20 @@ impl Step<'_> {
         stars(self.matcher.code, base)
     }
 
-    // A sequence: factors side by side.
+    // A sequence: factors side by side, each put in order after those before it.
     #[cycle(base_factor_past_sequence)]
     fn sequence(&self, at: usize, k: usize) -> Walk
         ensures { SequenceRead self.now.positions self.now.matcher.above.now self.now.matcher.event.now self.now.matcher.code.now at k result }
     {
-        let factor = self.factor(at, k);
-        if !starts(self.matcher.code, factor.end) {
-            return factor;
+        let mut walk = self.factor(at, k);
+        while starts(self.matcher.code, walk.end) {
+            let factor = self.factor(walk.end, walk.summary.next);
+            walk = Walk {
+                end: factor.end,
+                summary: walk.summary.in_order(factor.summary),
+            };
         }
-        let rest = self.sequence(factor.end, factor.summary.next);
-        let summary = factor.summary.in_order(rest.summary);
-        Walk {
-            end: rest.end,
-            summary,
-        }
+        walk
     }
 
     // A past from at on, its patterns numbered from k on.

@@ -6,4 +6,5 @@ pub mod WalkLaws
 pub mod Following
 pub mod History
 pub mod SummaryLaws
+pub mod JoinLaws
 pub mod Right

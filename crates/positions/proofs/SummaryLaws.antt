@@ -22,7 +22,7 @@ pub record Same (u : SetSummary) (s : Summary) : Type 0 where
   pub last-same : (k : ℕ) → has_at s.last k ≡ u.last k
 
 -- a union of two numbers that are sets
-or_same : (a b k : ℕ) {x y : Bool} → has_at a k ≡ x → has_at b k ≡ y → has_at (bit_or a b) k ≡ x || y
+pub or_same : (a b k : ℕ) {x y : Bool} → has_at a k ≡ x → has_at b k ≡ y → has_at (bit_or a b) k ≡ x || y
 or_same a b k e f = has_or a b k ∙ ap₂ (λ x y. x || y) e f
 
 -- a number that is a set, where a test holds

@@ -1,8 +1,11 @@
--- `base`, `factor`, `sequence` and `past` meet their contracts: a law of WalkLaws for each way out.
+-- `base`, `factor`, `sequence` and `past` meet their contracts: a law of WalkLaws, SequenceLaws or PastLaws for each way through.
 -- Assumes nothing.
 use Rattle.std.proofs.Common.{arith, sym, ◌∙◌}
+use Rattle.follow.proofs.Heads.{starts_within}
 use Rattle.follow.proofs.StarLaws.{stands_within, stands_byte, stands_not}
-use Rattle.follow.proofs.WalkLaws.{pattern_base, empty_base, open_base, inner_base, whole_factor, end-seq, more-seq, end-past, either-past}
+use Rattle.follow.proofs.WalkLaws.{pattern_base, empty_base, open_base, inner_base, whole_factor}
+use Rattle.follow.proofs.SequenceLaws.{whole_sequence, end_sequence, more_sequence}
+use Rattle.follow.proofs.PastLaws.{end-past, either-past}
 use Rattle.follow.proofs.walk.Step.+base_factor_past_sequence.Goals as goal
 
 pub base-returns-then-not-stands : goal.base-returns-then-not-stands
@@ -24,20 +27,6 @@ base-returns t c =
 pub factor-returns : goal.factor-returns
 factor-returns t c = whole_factor _ _ _ _ _ _ _ _ c.base-base.ensures c.stars.ensures
 
-pub past-returns-then-not-stands : goal.past-returns-then-not-stands
-past-returns-then-not-stands t c = end-past _ _ _ _ _ _ _ c.sequence-sequence.ensures (stands_not _ _ _ _ c.stands.ensures c.if-not-stands.true (omega arith))
-
-pub past-returns : goal.past-returns
-past-returns t c =
-    either-past _ _ _ _ _ _ _ c.sequence-sequence.ensures (stands_byte _ _ _ _ c.stands.ensures c.if-not-stands.false) _ c.past-other.ensures _ c.one_of-summary.ensures
-
-pub sequence-returns-then-not-starts : goal.sequence-returns-then-not-starts
-sequence-returns-then-not-starts t c = end-seq _ _ _ _ _ _ _ c.factor-factor.ensures (sym c.starts.ensures ∙ c.if-not-starts.true)
-
-pub sequence-returns : goal.sequence-returns
-sequence-returns t c =
-    more-seq _ _ _ _ _ _ _ c.factor-factor.ensures (sym c.starts.ensures ∙ c.if-not-starts.false) _ c.sequence-rest.ensures _ c.in_order-summary.ensures
-
 pub base-overflow_add-inside : goal.base-overflow_add-inside
 base-overflow_add-inside t c = let h = stands_within _ _ _ _ c.stands.ensures c.if-not-stands.false in omega arith
 
@@ -46,6 +35,40 @@ base-overflow_add-result t c = let h = stands_within _ _ _ _ c.stands-2.ensures 
 
 pub base-past-past-requires : goal.base-past-past-requires
 base-past-past-requires t c = let h = stands_within _ _ _ _ c.stands.ensures c.if-not-stands.false in (omega arith, tt)
+
+pub sequence-loop-factor-init : goal.sequence-loop-factor-init
+sequence-loop-factor-init t c = let f = c.factor-walk.ensures in (f.onwards, f.moves, λ r h. whole_sequence _ _ _ _ _ _ _ f r h)
+
+pub sequence-factor-factor-requires : goal.sequence-factor-factor-requires
+sequence-factor-factor-requires t c =
+    let h = starts_within c.args.self.now.matcher.code.now c.loop-factor.walk.end (sym c.starts.ensures ∙ c.loop-factor-test.true) in
+    let o = c.loop-factor.invariant.0 in
+    (omega arith, tt)
+
+pub sequence-loop-factor-smaller : goal.sequence-loop-factor-smaller
+sequence-loop-factor-smaller t c =
+    let h = starts_within c.args.self.now.matcher.code.now c.loop-factor.walk.end (sym c.starts.ensures ∙ c.loop-factor-test.true) in
+    let m = c.factor-factor.ensures.moves h in
+    omega arith
+
+pub sequence-loop-factor-preserved : goal.sequence-loop-factor-preserved
+sequence-loop-factor-preserved t c =
+    let f = c.factor-factor.ensures in
+    let o = f.onwards in
+    let i = c.loop-factor.invariant in
+    let p = i.0 in
+    let b = sym c.starts.ensures ∙ c.loop-factor-test.true in
+    (omega arith, λ h. let m = i.1 h in omega arith, λ r h. i.2 r (more_sequence _ _ _ _ _ b _ f _ c.in_order.ensures r h))
+
+pub sequence-returns : goal.sequence-returns
+sequence-returns t c = c.loop-factor.invariant.2 _ (end_sequence _ _ _ _ _ (sym c.starts.ensures ∙ c.loop-factor-test.false))
+
+pub past-returns-then-not-stands : goal.past-returns-then-not-stands
+past-returns-then-not-stands t c = end-past _ _ _ _ _ _ _ c.sequence-sequence.ensures (stands_not _ _ _ _ c.stands.ensures c.if-not-stands.true (omega arith))
+
+pub past-returns : goal.past-returns
+past-returns t c =
+    either-past _ _ _ _ _ _ _ c.sequence-sequence.ensures (stands_byte _ _ _ _ c.stands.ensures c.if-not-stands.false) _ c.past-other.ensures _ c.one_of-summary.ensures
 
 pub past-overflow_add-sequence : goal.past-overflow_add-sequence
 past-overflow_add-sequence t c = let h = stands_within _ _ _ _ c.stands.ensures c.if-not-stands.false in omega arith

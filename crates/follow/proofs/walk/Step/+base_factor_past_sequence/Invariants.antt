@@ -1,4 +1,7 @@
-use Rattle.std.proofs.Common.{◌-◌, ◌+◌, ◌*◌, length}
+use Rattle.std.proofs.Common.{◌-◌, ◌+◌, ◌*◌, ◌<◌, ◌≤◌, length}
+use Rattle.follow.specs.Walked.{SequenceRead}
+use Rattle.follow.specs.declared.walk.Walk.{Walk}
+use Rattle.follow.proofs.SequenceLaws.{Continued}
 use Rattle.follow.proofs.walk.Step.+base_factor_past_sequence.Given as goal
 
 abbrev pub decreases-base : goal.decreases-base
@@ -12,3 +15,13 @@ decreases-past l = 4 * (length l.self.now.matcher.code.now - l.at) + 3
 
 abbrev pub decreases-sequence : goal.decreases-sequence
 decreases-sequence l = 4 * (length l.self.now.matcher.code.now - l.at) + 2
+
+-- what further factors make of what is found so far is what is found of the sequence
+abbrev pub invariant-sequence-loop-factor : goal.invariant-sequence-loop-factor
+invariant-sequence-loop-factor l =
+    (l.at ≤ l.walk.end) × (l.at < length l.self.matcher.code.now → l.at < l.walk.end)
+    × ((r : Walk) → Continued l.self.positions l.self.matcher.parents.now l.self.matcher.event.now l.self.matcher.code.now l.walk r
+    → SequenceRead l.self.positions l.self.matcher.parents.now l.self.matcher.event.now l.self.matcher.code.now l.at l.k r)
+
+abbrev pub decreases-sequence-loop-factor : goal.decreases-sequence-loop-factor
+decreases-sequence-loop-factor l = length l.self.matcher.code.now - l.walk.end
