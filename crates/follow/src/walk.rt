@@ -1,4 +1,4 @@
-// One pass over a past's code for one event. The four levels call one another, and a sequence loops over its factors; what falls is the code left, and then the level.
+// One pass over a past's code for one event. The four levels call one another, and each loops over its like; what falls is the code left, and then the level.
 ghost use Rattle.std.specs.Prelude.{◌≡◌, get_or};
 ghost use Rattle.follow.specs.Walked.{stands_at, starts, StarsEnd, StarsRead, BaseRead, FactorRead, SequenceRead, PastRead};
 
@@ -117,20 +117,19 @@ impl Step<'_> {
         walk
     }
 
-    // A past from at on, its patterns numbered from k on.
+    // A past from at on, its patterns numbered from k on: sequences to choose from, each added to those before it.
     #[cycle(base_factor_past_sequence)]
     pub fn past(&self, at: usize, k: usize) -> Walk
         ensures { PastRead self.now.positions self.now.matcher.above.now self.now.matcher.event.now self.now.matcher.code.now at k result }
     {
-        let sequence = self.sequence(at, k);
-        if !stands(self.matcher.code, sequence.end, b'+') {
-            return sequence;
+        let mut walk = self.sequence(at, k);
+        while stands(self.matcher.code, walk.end, b'+') {
+            let other = self.sequence(walk.end + 1, walk.summary.next);
+            walk = Walk {
+                end: other.end,
+                summary: walk.summary.one_of(other.summary),
+            };
         }
-        let other = self.past(sequence.end + 1, sequence.summary.next);
-        let summary = sequence.summary.one_of(other.summary);
-        Walk {
-            end: other.end,
-            summary,
-        }
+        walk
     }
 }

@@ -5,7 +5,7 @@ use Rattle.follow.proofs.Heads.{starts_within}
 use Rattle.follow.proofs.StarLaws.{stands_within, stands_byte, stands_not}
 use Rattle.follow.proofs.WalkLaws.{pattern_base, empty_base, open_base, inner_base, whole_factor}
 use Rattle.follow.proofs.SequenceLaws.{whole_sequence, end_sequence, more_sequence}
-use Rattle.follow.proofs.PastLaws.{end-past, either-past}
+use Rattle.follow.proofs.PastLaws.{whole_past, end_past, more_past}
 use Rattle.follow.proofs.walk.Step.+base_factor_past_sequence.Goals as goal
 
 pub base-returns-then-not-stands : goal.base-returns-then-not-stands
@@ -36,6 +36,35 @@ base-overflow_add-result t c = let h = stands_within _ _ _ _ c.stands-2.ensures 
 pub base-past-past-requires : goal.base-past-past-requires
 base-past-past-requires t c = let h = stands_within _ _ _ _ c.stands.ensures c.if-not-stands.false in (omega arith, tt)
 
+pub past-loop-other-init : goal.past-loop-other-init
+past-loop-other-init t c = let w = c.sequence-walk.ensures in (w.onwards, λ r h. whole_past _ _ _ _ _ _ _ w r h)
+
+pub past-overflow_add-walk : goal.past-overflow_add-walk
+past-overflow_add-walk t c = let h = stands_within _ _ _ _ c.stands.ensures c.loop-other-test.true in omega arith
+
+pub past-sequence-other-requires : goal.past-sequence-other-requires
+past-sequence-other-requires t c =
+    let h = stands_within _ _ _ _ c.stands.ensures c.loop-other-test.true in
+    let o = c.loop-other.invariant.0 in
+    (omega arith, tt)
+
+pub past-loop-other-smaller : goal.past-loop-other-smaller
+past-loop-other-smaller t c =
+    let h = stands_within _ _ _ _ c.stands.ensures c.loop-other-test.true in
+    let o = c.sequence-other.ensures.onwards in
+    omega arith
+
+pub past-loop-other-preserved : goal.past-loop-other-preserved
+past-loop-other-preserved t c =
+    let s = c.sequence-other.ensures in
+    let o = s.onwards in
+    let i = c.loop-other.invariant in
+    let b = stands_byte _ _ _ _ c.stands.ensures c.loop-other-test.true in
+    (let p = i.0 in omega arith, λ r h. i.1 r (more_past _ _ _ _ _ b _ s _ c.one_of.ensures r h))
+
+pub past-returns : goal.past-returns
+past-returns t c = c.loop-other.invariant.1 _ (end_past _ _ _ _ _ (stands_not _ _ _ _ c.stands.ensures c.loop-other-test.false (omega arith)))
+
 pub sequence-loop-factor-init : goal.sequence-loop-factor-init
 sequence-loop-factor-init t c = let f = c.factor-walk.ensures in (f.onwards, f.moves, λ r h. whole_sequence _ _ _ _ _ _ _ f r h)
 
@@ -62,19 +91,3 @@ sequence-loop-factor-preserved t c =
 
 pub sequence-returns : goal.sequence-returns
 sequence-returns t c = c.loop-factor.invariant.2 _ (end_sequence _ _ _ _ _ (sym c.starts.ensures ∙ c.loop-factor-test.false))
-
-pub past-returns-then-not-stands : goal.past-returns-then-not-stands
-past-returns-then-not-stands t c = end-past _ _ _ _ _ _ _ c.sequence-sequence.ensures (stands_not _ _ _ _ c.stands.ensures c.if-not-stands.true (omega arith))
-
-pub past-returns : goal.past-returns
-past-returns t c =
-    either-past _ _ _ _ _ _ _ c.sequence-sequence.ensures (stands_byte _ _ _ _ c.stands.ensures c.if-not-stands.false) _ c.past-other.ensures _ c.one_of-summary.ensures
-
-pub past-overflow_add-sequence : goal.past-overflow_add-sequence
-past-overflow_add-sequence t c = let h = stands_within _ _ _ _ c.stands.ensures c.if-not-stands.false in omega arith
-
-pub past-past-other-requires : goal.past-past-other-requires
-past-past-other-requires t c =
-    let h = stands_within _ _ _ _ c.stands.ensures c.if-not-stands.false in
-    let o = c.sequence-sequence.ensures.onwards in
-    (omega arith, tt)

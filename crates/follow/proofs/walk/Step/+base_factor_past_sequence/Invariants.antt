@@ -1,7 +1,8 @@
 use Rattle.std.proofs.Common.{◌-◌, ◌+◌, ◌*◌, ◌<◌, ◌≤◌, length}
-use Rattle.follow.specs.Walked.{SequenceRead}
+use Rattle.follow.specs.Walked.{SequenceRead, PastRead}
 use Rattle.follow.specs.declared.walk.Walk.{Walk}
 use Rattle.follow.proofs.SequenceLaws.{Continued}
+use Rattle.follow.proofs.PastLaws.{Widened}
 use Rattle.follow.proofs.walk.Step.+base_factor_past_sequence.Given as goal
 
 abbrev pub decreases-base : goal.decreases-base
@@ -16,12 +17,22 @@ decreases-past l = 4 * (length l.self.now.matcher.code.now - l.at) + 3
 abbrev pub decreases-sequence : goal.decreases-sequence
 decreases-sequence l = 4 * (length l.self.now.matcher.code.now - l.at) + 2
 
+-- what further sequences make of what is found so far is what is found of the past
+abbrev pub invariant-past-loop-other : goal.invariant-past-loop-other
+invariant-past-loop-other l =
+    (l.at ≤ l.walk.end)
+    × ((r : Walk) → Widened l.self.positions l.self.matcher.above.now l.self.matcher.event.now l.self.matcher.code.now l.walk r
+    → PastRead l.self.positions l.self.matcher.above.now l.self.matcher.event.now l.self.matcher.code.now l.at l.k r)
+
+abbrev pub decreases-past-loop-other : goal.decreases-past-loop-other
+decreases-past-loop-other l = length l.self.matcher.code.now - l.walk.end
+
 -- what further factors make of what is found so far is what is found of the sequence
 abbrev pub invariant-sequence-loop-factor : goal.invariant-sequence-loop-factor
 invariant-sequence-loop-factor l =
     (l.at ≤ l.walk.end) × (l.at < length l.self.matcher.code.now → l.at < l.walk.end)
-    × ((r : Walk) → Continued l.self.positions l.self.matcher.parents.now l.self.matcher.event.now l.self.matcher.code.now l.walk r
-    → SequenceRead l.self.positions l.self.matcher.parents.now l.self.matcher.event.now l.self.matcher.code.now l.at l.k r)
+    × ((r : Walk) → Continued l.self.positions l.self.matcher.above.now l.self.matcher.event.now l.self.matcher.code.now l.walk r
+    → SequenceRead l.self.positions l.self.matcher.above.now l.self.matcher.event.now l.self.matcher.code.now l.at l.k r)
 
 abbrev pub decreases-sequence-loop-factor : goal.decreases-sequence-loop-factor
 decreases-sequence-loop-factor l = length l.self.matcher.code.now - l.walk.end
