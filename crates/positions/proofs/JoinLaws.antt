@@ -4,10 +4,10 @@
 use Rattle.std.proofs.Common.{◌≡◌, refl, sym, ap, ◌∙◌, Bool, true, false, ◌&&◌, ◌||◌, ℕ, zero, suc, ◌%◌, ◌/◌, ◌^◌, ◌<◌, mod-lt, arith, eqb, bit_or}
 use Rattle.std.proofs.Math.Bool.{and_assoc, or_assoc}
 use Rattle.std.proofs.lemmas.Nat.Bits.{same_from_bits}
-use Rattle.positions.specs.Sets.{has_at, only_if}
+use Rattle.common.specs.Sets.{has_at, only_if}
 use Rattle.positions.specs.Summaries.{seq_summary, alt_summary, star_summary}
 use Rattle.positions.specs.declared.summaries.Summary.{Summary}
-use Rattle.positions.proofs.SetLaws.{has_or, has_only_if}
+use Rattle.common.proofs.SetLaws.{has_or, has_only_if}
 use Rattle.positions.proofs.SummaryLaws.{or_same}
 
 -- two binary digits that are 1 together are the same
