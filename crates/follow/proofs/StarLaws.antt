@@ -1,10 +1,10 @@
 -- What each way through `stars_end` and `stars` shows.
 -- Assumes nothing.
-use Rattle.std.proofs.Common.{◌≡◌, refl, sym, ap, ◌∙◌, List, ◌++◌, ℕ, zero, suc, ◌+◌, ◌<◌, arith, length, get_or, drop, replicate, ltb, Bool, true, false, ltb-true, ltb-false, eq-eqb, eqb-true}
+use Rattle.std.proofs.Common.{◌≡◌, refl, sym, ap, ◌∙◌, List, ◌++◌, ℕ, zero, suc, ◌+◌, ◌<◌, arith, length, get_or, drop, replicate, ltb, Bool, true, false, not, eqb, ltb-true, ltb-false, eq-eqb, eqb-true}
 use Rattle.std.proofs.Math.ListN.{get_or-eq_default}
 use Rattle.common.proofs.Bools.{and_left, and_right, and_both, true_not_false}
 use Rattle.patterns.proofs.Here.{here, first}
-use Rattle.positions.specs.Summaries.{star_summary}
+use Rattle.positions.specs.Summaries.{star_summary, star_if}
 use Rattle.positions.specs.declared.summaries.Summary.{Summary}
 use Rattle.positions.proofs.JoinLaws.{star_star}
 use Rattle.follow.specs.Walked.{stands_at, again, AfterFactor, StarsEnd, StarsRead}
@@ -55,3 +55,19 @@ module _ (code : List ℕ) (w : Walk) (e : ℕ) (h : StarsEnd code w.end e) wher
       go : (n : ℕ) → e ≡ w.end + n → (s ≡ again n w.summary) × (e ≡ w.end + n)
       go zero z = absurd (ne (omega arith))
       go (suc n) z = (q ∙ sym (again_star n w.summary), z)
+
+  -- with or without
+  pub star_or_not : (b : Bool) → b ≡ not (eqb e w.end) → StarsRead code w (record { end = e; summary = star_if b w.summary })
+  star_or_not true q = some_star (λ d. true_not_false (not (eqb e w.end)) (sym q) (ap not (eq-eqb e w.end d))) _ refl
+  star_or_not false q = record { onwards = h.onwards; right = λ n rest a d. go n (omega (arith, h.right n rest a d, same)) }
+    where
+      same : e ≡ w.end
+      same = eqb-true e w.end (go (eqb e w.end) q)
+        where
+          go : (t : Bool) → false ≡ not t → t ≡ true
+          go true z = refl
+          go false z = z
+
+      go : (n : ℕ) → 0 ≡ n → (w.summary ≡ again n w.summary) × (e ≡ w.end + n)
+      go zero z = (refl, omega (arith, same))
+      go (suc n) z = absurd (omega arith)

@@ -8,7 +8,7 @@ use Rattle.code.specs.Trees.{code_past, code_sequence, code_factor, code_base}
 use Rattle.patterns.specs.Meets.{meets}
 use Rattle.patterns.specs.Judged.{order_by}
 use Rattle.positions.specs.Past.{Past}
-use Rattle.positions.specs.Summaries.{summary, star_summary}
+use Rattle.positions.specs.Summaries.{summary, seq_summary, star_summary}
 use Rattle.positions.specs.declared.summaries.Summary.{Summary}
 use Rattle.follow.specs.Meaning.{past_meaning, sequence_meaning, factor_meaning, base_meaning}
 use Rattle.follow.specs.declared.walk.Walk.{Walk}
@@ -56,6 +56,20 @@ SequenceRead = WalkRead code_sequence sequence_meaning AfterSequence
 
 abbrev pub PastRead : ℕ → List ℕ → List ℕ → List ℕ → ℕ → ℕ → Walk → Type 0
 PastRead = WalkRead code_past past_meaning AfterPast
+
+-- The promise where the walk w comes first: where the code from its end on spells one of these, the walk finds the summary of it, put in order after what w found.
+pub record WalkReadOn {T : Type 0} (code' : T → List ℕ) (meaning : T → Past (Pattern ℕ)) (Stop : List ℕ → Type 0) (m : ℕ) (above event code : List ℕ) (w r : Walk) : Type 0 where
+  pub onwards : w.end ≤ r.end
+  pub moves : w.end < length code → w.end < r.end
+  pub right : (t : T) (rest : List ℕ) → Stop rest → drop w.end code ≡ code' t ++ rest
+      → (r.summary ≡ seq_summary w.summary (summary m (meets (order_by above) event) (meaning t) w.summary.next)) × (r.end ≡ w.end + length (code' t))
+
+-- one factor more; factors, at least one
+abbrev pub FurtherRead : ℕ → List ℕ → List ℕ → List ℕ → Walk → Walk → Type 0
+FurtherRead = WalkReadOn code_factor factor_meaning AfterFactor
+
+abbrev pub SequenceReadOn : ℕ → List ℕ → List ℕ → List ℕ → Walk → Walk → Type 0
+SequenceReadOn = WalkReadOn code_sequence sequence_meaning AfterSequence
 
 -- n stars
 abbrev pub again : ℕ → Summary → Summary

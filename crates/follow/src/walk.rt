@@ -1,6 +1,6 @@
-// One pass over a past's code for one event. The four levels call one another, and each loops over its like; what falls is the code left, and then the level.
+// One pass over a past's code for one event. The levels call one another, and each loops over its like; what falls is the code left, and then the level.
 ghost use Rattle.std.specs.Prelude.{◌≡◌, get_or};
-ghost use Rattle.follow.specs.Walked.{stands_at, starts, StarsEnd, StarsRead, BaseRead, FactorRead, SequenceRead, PastRead};
+ghost use Rattle.follow.specs.Walked.{stands_at, starts, StarsEnd, StarsRead, BaseRead, FactorRead, FurtherRead, SequenceRead, PastRead};
 
 use patterns::Matcher;
 use positions::Summary;
@@ -12,7 +12,7 @@ pub struct Walk {
     pub summary: Summary,
 }
 
-// What a pass reads: the past's code with the event and the sets of the roles above, and the positions held before the event.
+// What a pass reads: the past's code with the event and the parents of roles, and the positions held before the event.
 // Kept: places in the code are numbers. Where the trigger stands, one after the past's end, is kept as a byte of the rule's row.
 #[derive(Clone, Copy)]
 pub struct Step<'a> {
@@ -62,7 +62,7 @@ fn stars(code: &[u8], walk: Walk) -> Walk
 
 impl Step<'_> {
     // A base: a pattern, (), or a past in round brackets.
-    #[cycle(base_factor_past_sequence)]
+    #[cycle(base_factor_further_past_sequence)]
     fn base(&self, at: usize, k: usize) -> Walk
         ensures { BaseRead self.now.positions self.now.matcher.above.now self.now.matcher.event.now self.now.matcher.code.now at k result }
     {
@@ -93,7 +93,7 @@ impl Step<'_> {
     }
 
     // A factor: a base and its stars.
-    #[cycle(base_factor_past_sequence)]
+    #[cycle(base_factor_further_past_sequence)]
     fn factor(&self, at: usize, k: usize) -> Walk
         ensures { FactorRead self.now.positions self.now.matcher.above.now self.now.matcher.event.now self.now.matcher.code.now at k result }
     {
@@ -101,24 +101,48 @@ impl Step<'_> {
         stars(self.matcher.code, base)
     }
 
-    // A sequence: factors side by side, each put in order after those before it.
-    #[cycle(base_factor_past_sequence)]
-    fn sequence(&self, at: usize, k: usize) -> Walk
-        ensures { SequenceRead self.now.positions self.now.matcher.above.now self.now.matcher.event.now self.now.matcher.code.now at k result }
+    // One factor more, put in order after what was found before it. A pattern, with stars or without, is read with no call that recurs.
+    #[cycle(base_factor_further_past_sequence)]
+    fn further(&self, walk: Walk) -> Walk
+        ensures { FurtherRead self.now.positions self.now.matcher.above.now self.now.matcher.event.now self.now.matcher.code.now walk result }
     {
-        let mut walk = self.factor(at, k);
-        while starts(self.matcher.code, walk.end) {
+        if stands(self.matcher.code, walk.end, b'(') {
             let factor = self.factor(walk.end, walk.summary.next);
-            walk = Walk {
+            return Walk {
                 end: factor.end,
                 summary: walk.summary.in_order(factor.summary),
             };
         }
-        walk
+        let judged = self.matcher.pattern(walk.end);
+        let end = stars_end(self.matcher.code, judged.end);
+        let starred = end != judged.end;
+        Walk {
+            end,
+            summary: walk
+                .summary
+                .then_pattern(self.positions, judged.ok, starred),
+        }
+    }
+
+    // A sequence: factors side by side, at least one. What is found before the first is what is found of `()`.
+    #[cycle(base_factor_further_past_sequence)]
+    fn sequence(&self, at: usize, k: usize) -> Walk
+        ensures { SequenceRead self.now.positions self.now.matcher.above.now self.now.matcher.event.now self.now.matcher.code.now at k result }
+    {
+        let mut walk = Walk {
+            end: at,
+            summary: Summary::nothing(k),
+        };
+        loop {
+            walk = self.further(walk);
+            if !starts(self.matcher.code, walk.end) {
+                return walk;
+            }
+        }
     }
 
     // A past from at on, its patterns numbered from k on: sequences to choose from, each added to those before it.
-    #[cycle(base_factor_past_sequence)]
+    #[cycle(base_factor_further_past_sequence)]
     pub fn past(&self, at: usize, k: usize) -> Walk
         ensures { PastRead self.now.positions self.now.matcher.above.now self.now.matcher.event.now self.now.matcher.code.now at k result }
     {

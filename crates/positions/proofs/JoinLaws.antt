@@ -2,10 +2,11 @@
 -- is a star.
 -- Assumes nothing.
 use Rattle.std.proofs.Common.{◌≡◌, refl, sym, ap, ◌∙◌, Bool, true, false, ◌&&◌, ◌||◌, ℕ, zero, suc, ◌%◌, ◌/◌, ◌^◌, ◌<◌, mod-lt, arith, eqb, bit_or}
-use Rattle.std.proofs.Math.Bool.{and_assoc, or_assoc}
+use Rattle.std.proofs.Math.Bool.{and_assoc, or_assoc, and-false, or-false}
+use lib.Bits.{or_zero_r}
 use Rattle.std.proofs.lemmas.Nat.Bits.{same_from_bits}
 use Rattle.common.specs.Sets.{has_at, only_if}
-use Rattle.positions.specs.Summaries.{seq_summary, alt_summary, star_summary}
+use Rattle.positions.specs.Summaries.{empty_summary, seq_summary, alt_summary, star_summary}
 use Rattle.positions.specs.declared.summaries.Summary.{Summary}
 use Rattle.common.proofs.SetLaws.{has_or, has_only_if}
 use Rattle.positions.proofs.SummaryLaws.{or_same}
@@ -104,6 +105,23 @@ seq_assoc a b c =
         or_if c.last (bit_or b.last (only_if b.nullable a.last)) c.nullable k ∙ ap (λ (x : Bool). has_at c.last k || c.nullable && x) (or_if b.last a.last b.nullable k)
         ∙ end_three (has_at a.last k) (has_at b.last k) b.nullable (has_at c.last k) c.nullable
         ∙ sym (or_same _ _ k (or_if c.last b.last c.nullable k) (has_only_if (b.nullable && c.nullable) a.last k))
+
+-- `()` before a part changes nothing
+pub seq_unit : (k : ℕ) (s : Summary) → seq_summary (empty_summary k) s ≡ s
+unfolding seq_summary
+seq_unit k s =
+    λ i. record {
+      next = s.next;
+      nullable = s.nullable;
+      ending = (ap (λ (b : Bool). s.ending || b) (and-false s.nullable) ∙ or-false s.ending) i;
+      first = s.first;
+      moved = or_zero_r s.moved i;
+      last = (ap (bit_or s.last) (only_none s.nullable) ∙ or_zero_r s.last) i;
+    }
+  where
+    only_none : (b : Bool) → only_if b 0 ≡ 0
+    only_none true = refl
+    only_none false = refl
 
 -- either
 union_assoc : (a b c : ℕ) → bit_or (bit_or a b) c ≡ bit_or a (bit_or b c)

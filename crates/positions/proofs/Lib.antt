@@ -7,4 +7,5 @@ pub mod Following
 pub mod History
 pub mod SummaryLaws
 pub mod JoinLaws
+pub mod PatternLaws
 pub mod Right

@@ -63,6 +63,10 @@ star_summary p =
       last = p.last;
     }
 
+-- a star where b holds, else none
+abbrev pub star_if : Bool → Summary → Summary
+star_if b s = cond b (star_summary s) s
+
 -- the pass for an event that meets the patterns of which t holds, at the positions m, over a past whose patterns are numbered from k on
 unfoldable pub summary : {P : Type 0} → ℕ → (P → Bool) → Past P → ℕ → Summary
 summary m t (pat p) k = pat_summary m (t p) k

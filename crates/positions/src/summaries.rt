@@ -1,8 +1,8 @@
 // What one pass over a past finds for one event, put together from what it finds of the parts.
 ghost use Rattle.std.specs.Prelude.{◌≡◌};
-ghost use Rattle.positions.specs.Summaries.{after, pat_summary, empty_summary, seq_summary, alt_summary, star_summary, step_of, ends_of};
+ghost use Rattle.positions.specs.Summaries.{after, pat_summary, empty_summary, seq_summary, alt_summary, star_summary, star_if, step_of, ends_of};
 
-use common::sets::{has, only_if, single};
+use common::sets::{has, only_if, share, single};
 
 // What the pass finds of a part of a past: the number of the pattern after it; whether it allows the empty list; whether a position held may
 // end it; the patterns that may begin it and that the event meets; those that the event leads to from a position held; those that may end it.
@@ -66,6 +66,37 @@ impl Summary {
             first: self.first | only_if(self.nullable, second.first),
             moved: self.moved | entered,
             last: second.last | only_if(second.nullable, self.last),
+        }
+    }
+
+    // The pattern numbered next, side by side after this, with a star or without, at the positions held; `met` says whether the event meets it.
+    // It is `one`, `repeated` where it has a star, `in_order` after this; what is known beforehand of a pattern is not worked out again.
+    pub fn then_pattern(self, positions: u64, met: bool, starred: bool) -> Self
+        ensures { result ≡ seq_summary self (star_if starred (pat_summary positions met self.next)) }
+    {
+        let place = single(self.next);
+        let held = share(positions, place);
+        let entered = only_if(met, place);
+        let next = following(self.next);
+        let first = self.first | only_if(self.nullable, entered);
+        if starred {
+            let ending = held | self.ending;
+            return Self {
+                next,
+                nullable: self.nullable,
+                ending,
+                first,
+                moved: self.moved | only_if(ending, entered),
+                last: place | self.last,
+            };
+        }
+        Self {
+            next,
+            nullable: false,
+            ending: held,
+            first,
+            moved: self.moved | only_if(self.ending, entered),
+            last: place,
         }
     }
 

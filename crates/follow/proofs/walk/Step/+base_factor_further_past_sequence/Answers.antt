@@ -1,12 +1,12 @@
--- `base`, `factor`, `sequence` and `past` meet their contracts: a law of WalkLaws, SequenceLaws or PastLaws for each way through.
+-- `base`, `factor`, `further`, `sequence` and `past` meet their contracts: a law of WalkLaws, SequenceLaws or PastLaws for each way through.
 -- Assumes nothing.
-use Rattle.std.proofs.Common.{arith, sym, ◌∙◌}
+use Rattle.std.proofs.Common.{arith, refl, sym, ◌∙◌, ◌<◌, length}
 use Rattle.follow.proofs.Heads.{starts_within}
 use Rattle.follow.proofs.StarLaws.{stands_within, stands_byte, stands_not}
 use Rattle.follow.proofs.WalkLaws.{pattern_base, empty_base, open_base, inner_base, whole_factor}
-use Rattle.follow.proofs.SequenceLaws.{whole_sequence, end_sequence, more_sequence}
+use Rattle.follow.proofs.SequenceLaws.{after_factor, after_pattern, last_factor, more_factors, whole_sequence}
 use Rattle.follow.proofs.PastLaws.{whole_past, end_past, more_past}
-use Rattle.follow.proofs.walk.Step.+base_factor_past_sequence.Goals as goal
+use Rattle.follow.proofs.walk.Step.+base_factor_further_past_sequence.Goals as goal
 
 pub base-returns-then-not-stands : goal.base-returns-then-not-stands
 base-returns-then-not-stands t c =
@@ -65,29 +65,32 @@ past-loop-other-preserved t c =
 pub past-returns : goal.past-returns
 past-returns t c = c.loop-other.invariant.1 _ (end_past _ _ _ _ _ (stands_not _ _ _ _ c.stands.ensures c.loop-other-test.false (omega arith)))
 
-pub sequence-loop-factor-init : goal.sequence-loop-factor-init
-sequence-loop-factor-init t c = let f = c.factor-walk.ensures in (f.onwards, f.moves, λ r h. whole_sequence _ _ _ _ _ _ _ f r h)
+pub further-returns-then-stands : goal.further-returns-then-stands
+further-returns-then-stands t c = after_factor _ _ _ _ _ _ c.factor-factor.ensures _ c.in_order.ensures
 
-pub sequence-factor-factor-requires : goal.sequence-factor-factor-requires
-sequence-factor-factor-requires t c =
-    let h = starts_within c.args.self.now.matcher.code.now c.loop-factor.walk.end (sym c.starts.ensures ∙ c.loop-factor-test.true) in
-    let o = c.loop-factor.invariant.0 in
-    (omega arith, tt)
+pub further-returns : goal.further-returns
+further-returns t c =
+    after_pattern _ _ _ _ _ (stands_not _ _ _ _ c.stands.ensures c.if-stands.false (omega arith)) _ c.pattern-judged.ensures _ c.stars_end-end.ensures _ refl _ c.then_pattern.ensures
 
-pub sequence-loop-factor-smaller : goal.sequence-loop-factor-smaller
-sequence-loop-factor-smaller t c =
-    let h = starts_within c.args.self.now.matcher.code.now c.loop-factor.walk.end (sym c.starts.ensures ∙ c.loop-factor-test.true) in
-    let m = c.factor-factor.ensures.moves h in
-    omega arith
+pub sequence-loop-walk-init : goal.sequence-loop-walk-init
+sequence-loop-walk-init t c = (omega arith, λ r h. whole_sequence _ _ _ _ _ _ _ c.nothing.ensures r h)
 
-pub sequence-loop-factor-preserved : goal.sequence-loop-factor-preserved
-sequence-loop-factor-preserved t c =
-    let f = c.factor-factor.ensures in
+pub sequence-loop-walk-smaller : goal.sequence-loop-walk-smaller
+sequence-loop-walk-smaller t c =
+    let f = c.further-walk.ensures in
     let o = f.onwards in
-    let i = c.loop-factor.invariant in
-    let p = i.0 in
-    let b = sym c.starts.ensures ∙ c.loop-factor-test.true in
-    (omega arith, λ h. let m = i.1 h in omega arith, λ r h. i.2 r (more_sequence _ _ _ _ _ b _ f _ c.in_order.ensures r h))
+    let h = starts_within c.args.self.now.matcher.code.now c.further-walk.result.end (sym c.starts.ensures ∙ c.if-not-starts.false) in
+    let l : c.loop-walk.walk.end < length c.args.self.now.matcher.code.now = omega (arith, o, h) in
+    let m = f.moves l in
+    omega (arith, m, h)
 
-pub sequence-returns : goal.sequence-returns
-sequence-returns t c = c.loop-factor.invariant.2 _ (end_sequence _ _ _ _ _ (sym c.starts.ensures ∙ c.loop-factor-test.false))
+pub sequence-loop-walk-preserved : goal.sequence-loop-walk-preserved
+sequence-loop-walk-preserved t c =
+    let f = c.further-walk.ensures in
+    let o = f.onwards in
+    let i = c.loop-walk.invariant in
+    let p = i.0 in
+    (omega arith, λ r h. i.1 r (more_factors _ _ _ _ _ _ f (sym c.starts.ensures ∙ c.if-not-starts.false) r h))
+
+pub sequence-returns-then-not-starts : goal.sequence-returns-then-not-starts
+sequence-returns-then-not-starts t c = c.loop-walk.invariant.1 _ (last_factor _ _ _ _ _ _ c.further-walk.ensures (sym c.starts.ensures ∙ c.if-not-starts.true))
