@@ -84,6 +84,11 @@ pub encoded_small : (ns : List ℕ) (ts : List Token) → (encoded_of ns ts).len
 unfolding encoded_of filled
 encoded_small ns ts = omega (arith, length-take code_size ts)
 
+-- and no more than there are tokens
+pub encoded_fewer : (ns : List ℕ) (ts : List Token) → (encoded_of ns ts).len ≤ length ts
+unfolding encoded_of filled
+encoded_fewer ns ts = omega (arith, length-take code_size ts)
+
 -- where the tokens are no more, each is coded, and a name that has no id is told
 module _ (ns : List ℕ) (ts : List Token) (short : length ts ≤ code_size) where
   encoded_is : encoded_of ns ts ≡ filled ns ts

@@ -1,6 +1,6 @@
 -- The parts of a line, put together; and what is told of a text that says a line.
 -- Assumes nothing.
-use Rattle.std.proofs.Common.{Option, Some, None, Bor, MatchOption, ◌≡◌, refl, ap, sym, ◌∙◌, Bool, true, false, List, [], ◌∷◌, ◌++◌, ℕ, ◌≤◌, arith, leb, length, take, drop, length-drop, drop-drop, le-leb}
+use Rattle.std.proofs.Common.{Option, Some, None, Bor, MatchOption, ◌≡◌, refl, ap, sym, ◌∙◌, Bool, true, false, List, [], ◌∷◌, ◌++◌, ℕ, ◌+◌, ◌≤◌, arith, leb, length, take, drop, length-drop, drop-drop, le-leb}
 use Rattle.common.specs.Limits.{max_patterns}
 use Rattle.lexer.specs.Class.{wordy, spacey, marky}
 use Rattle.lexer.specs.Run.{run, after}
@@ -32,7 +32,7 @@ use Rattle.code.specs.declared.lines.RoleLine.{RoleLine}
 use Rattle.code.proofs.CountLaws.{count-right}
 use Rattle.code.proofs.Codes.{rule_code}
 use Rattle.code.proofs.Lacks.{rule-lacks}
-use Rattle.code.proofs.EncodeLaws.{encoded_small, encoded_codes, encoded_unknown}
+use Rattle.code.proofs.EncodeLaws.{encoded_small, encoded_fewer, encoded_codes, encoded_unknown}
 
 -- what is left after the first token, by any answer of `next`
 left_is : (s : List ℕ) (r : Option (Found × Bor (List ℕ))) → by_numbers r ≡ lexeme_of s → Parts s r → MatchOption r (s ≡ after_first s) (λ p. p.1.now ≡ after_first s)
@@ -106,7 +106,7 @@ module _ (ns s second third fourth : List ℕ) (a : second ≡ after_first s) (b
 -- what is told of a text that says a rule: its name; its code, that of its tree with ids; whether it names a role that has no id (refusal 6); whether its
 -- patterns are few enough (refusal 7)
 pub record RuleTold (ns w : List ℕ) (p : Past) (t : Pattern) (x : Response) (r : RuleLine) : Type 0 where
-  pub small : r.body.len ≤ code_size
+  pub small : r.body.len + 3 ≤ code_size  -- `rule NAME :` stands before the body
   pub name : r.name ≡ packed w
   pub code : take r.body.len r.body.code ≡ code_rule (map_past (id_of ns) p) (map_pattern (id_of ns) t) (map_response (id_of ns) x)
   pub unknown : r.body.unknown ≡ lacks ns (rule_names p t x)
@@ -126,7 +126,7 @@ rule_told ns s l w p q x h =
     let g = h.valid in
     let k = encoded_codes ns ts short ∙ ap (codes ns) body_is ∙ rule_code ns p q x g.1.0 g.1.1.0 g.1.1.1 in
     record {
-      small = encoded_small ns ts;
+      small = let m = encoded_fewer ns ts in omega (arith, m, length-drop 3 (tokens s), tokens-length false s);
       name = ap (λ (us : List Token). packed (leading_word (drop 1 us))) h.spelled;
       code = k;
       unknown = encoded_unknown ns ts short ∙ ap (any_unheld ns) body_is ∙ rule-lacks ns p q x g.1.0 g.1.1.0 g.1.1.1;
