@@ -4,6 +4,7 @@ pub mod ItemLaws
 pub mod TermLaws
 pub mod PatternLaws
 pub mod JudgeLaws
+pub mod MetLaws
 pub mod RoleLaws
 pub mod MeetsLaws
 pub mod TableNames

@@ -5,6 +5,7 @@
 
 mod items;
 mod judge;
+mod meets;
 mod roles;
 
 pub use judge::{Judged, Matcher};
