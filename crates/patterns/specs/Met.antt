@@ -4,16 +4,16 @@ use Rattle.std.specs.Prelude.{◌≡◌, Bool, false, cond, List, ◌++◌, ℕ,
 use Rattle.grammar.specs.Trees.{Items, Pattern}
 use Rattle.code.specs.Trees.{code_items, code_pattern}
 use Rattle.patterns.specs.Meets.{items_meet, meets}
-use Rattle.patterns.specs.Judged.{order_in, is_of}
+use Rattle.patterns.specs.Judged.{order_by, is_of}
 
 -- a role is the one that a byte of code names or, where under is true, below it
 unfoldable pub names_role : List ℕ → Bool → ℕ → ℕ → Bool
-names_role ps under byte role = cond (ltb byte 128) false (is_of ps under (byte - 128) role)
+names_role above under byte role = cond (ltb byte 128) false (is_of above under (byte - 128) role)
 
 -- items, against some roles
-pub record ItemsMet (ps roles code : List ℕ) (r : Bool) : Type 0 where
-  pub right : (xs : Items ℕ) (rest : List ℕ) → code ≡ code_items xs ++ rest → r ≡ items_meet (order_in ps) roles xs
+pub record ItemsMet (above roles code : List ℕ) (r : Bool) : Type 0 where
+  pub right : (xs : Items ℕ) (rest : List ℕ) → code ≡ code_items xs ++ rest → r ≡ items_meet (order_by above) roles xs
 
 -- a pattern, against the event
-pub record PatternMet (ps event code : List ℕ) (at : ℕ) (r : Bool) : Type 0 where
-  pub right : (p : Pattern ℕ) (rest : List ℕ) → drop at code ≡ code_pattern p ++ rest → r ≡ meets (order_in ps) event p
+pub record PatternMet (above event code : List ℕ) (at : ℕ) (r : Bool) : Type 0 where
+  pub right : (p : Pattern ℕ) (rest : List ℕ) → drop at code ≡ code_pattern p ++ rest → r ≡ meets (order_by above) event p

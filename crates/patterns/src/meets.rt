@@ -9,13 +9,13 @@ impl Matcher<'_> {
     // Whether a role is the one that a byte of code names or, under, one below it.
     #[tactic(auto, unfolding(crate::specs::Met::names_role))]
     fn names_role(&self, under: bool, byte: u8, role: u8) -> bool
-        ensures { result ≡ names_role self.now.parents.now under byte role }
+        ensures { result ≡ names_role self.now.above.now under byte role }
     {
         let Some(named) = byte.checked_sub(128) else {
             return false;
         };
         if under {
-            below(self.parents, role, named)
+            below(self.above, role, named)
         } else {
             role == named
         }
@@ -24,7 +24,7 @@ impl Matcher<'_> {
     // Whether the items that some code begins with, after their `<`, are met by some roles. What falls is the code.
     #[tactic(auto, using(crate::proofs::MetLaws::items_laws))]
     fn items_meet(&self, code: &[u8], roles: &[u8]) -> bool
-        ensures { ItemsMet self.now.parents.now roles.now code.now result }
+        ensures { ItemsMet self.now.above.now roles.now code.now result }
     {
         match code {
             [b'>', ..] => roles.is_empty(),
@@ -48,7 +48,7 @@ impl Matcher<'_> {
     // Whether the event meets the pattern from at on. A condition is judged to its end.
     #[tactic(auto, using(crate::proofs::MetLaws::pattern_laws))]
     pub fn meets(&self, at: usize) -> bool
-        ensures { PatternMet self.now.parents.now self.now.event.now self.now.code.now at result }
+        ensures { PatternMet self.now.above.now self.now.event.now self.now.code.now at result }
     {
         match self.code.get(at..) {
             Some([b'a', ..]) => true,

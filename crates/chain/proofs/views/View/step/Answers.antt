@@ -15,4 +15,4 @@ pub returns : goal.returns
 returns c =
     rw (c.status_after.ensures, c.work_after.ensures, c.is_some.ensures)
     (worked _ _ _ (least _ _ _ _ c.min-all.ensures c.min.ensures) _ c.roles.ensures _ c.in-Some.ensures _ (all-held _ _ c.min-all.ensures)
-    c.if-work-ge-MAX_RESPONSES.false _ _ c.row.ensures c.code_of.ensures _ c.respond-given.ensures)
+    c.if-work-ge-MAX_RESPONSES.false _ _ c.row-held.ensures c.code_of.ensures _ c.response_of.ensures _ c.respond-given.ensures)
