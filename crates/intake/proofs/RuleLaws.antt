@@ -1,6 +1,6 @@
 -- What becomes of a rule line is what it asks.
 -- Assumes nothing.
-use Rattle.std.proofs.Common.{◌≡◌, refl, sym, ap, ◌∙◌, subst, Bool, true, false, not, List, ℕ, ◌≤◌, ◌<◌, leb, ltb, length, ltb-true, leb-true}
+use Rattle.std.proofs.Common.{◌≡◌, refl, sym, ap, ◌∙◌, subst, Bool, true, false, not, List, ℕ, ◌≤◌, ◌<◌, arith, leb, ltb, length, ltb-true, leb-true}
 use Rattle.std.proofs.Math.Option.{some}
 use Rattle.common.specs.Limits.{max_patterns, max_rules}
 use Rattle.lexer.specs.Words.{same}
@@ -94,7 +94,7 @@ module _ (f : State) (z : Sized f) (s : List ℕ) (l : RuleLine) (read : l ≡ r
       unfolding rule_names
       kept-tree small room =
           let late = all_right Back (past_names p) _ backs in
-          kept_rule f z t rep made.rule tree (made.compiled.right tree (record { fits = told.small; is = told.code })) ids
+          kept_rule f z t rep made.rule tree (made.compiled.right tree (record { fits = let m = told.small in omega arith; is = told.code })) ids
           (valid-short (id_of table) x (valid-response w p q x says.valid)) (subst (λ (k : ℕ). k ≤ max_patterns) (sym (size-map (id_of table) p)) small)
           (record { name = w; past = p; trigger = q; response = x }) l.name told.name word
           (sym (past_back (id_of table) (name_at f.sheet) p (all_left Back (past_names p) _ backs)))
