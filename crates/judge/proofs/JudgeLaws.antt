@@ -2,7 +2,7 @@
 -- Assumes nothing.
 use Rattle.std.proofs.Common.{◌≡◌, refl, sym, ap, ◌∙◌, subst, true, false, List, [], ◌∷◌, ⊎_elim, ℕ, zero, suc, ◌/◌, ◌≤◌, ◌<◌, arith, length, take}
 use Rattle.std.proofs.Math.Option.{none, some}
-use Rattle.patterns.proofs.TableNames.{split}
+use Rattle.patterns.proofs.AboveLaws.{split}
 use Rattle.follow.specs.State as state
 use Rattle.follow.specs.declared.state.State.{State}
 use Rattle.intake.specs.Names.{Rule}

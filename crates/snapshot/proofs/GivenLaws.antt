@@ -10,7 +10,7 @@ use Rattle.frame.specs.Records.{records_of}
 use Rattle.code.specs.Trees.{code_rule, code_tail}
 use Rattle.code.specs.Count.{patterns_from}
 use Rattle.code.proofs.CountLaws.{count-right}
-use Rattle.patterns.proofs.TableNames.{split}
+use Rattle.patterns.proofs.AboveLaws.{split}
 use Rattle.follow.specs.Rows.{row_at, code_of}
 use Rattle.follow.specs.declared.state.Sheet.{Sheet}
 use Rattle.follow.specs.declared.state.State.{State}
