@@ -102,6 +102,8 @@ impl Step<'_> {
     }
 
     // One factor more, put in order after what was found before it. A pattern, with stars or without, is read with no call that recurs.
+    // It is made part of the loop of `sequence`, where what is found so far then stays in registers.
+    #[inline(always)]
     #[cycle(base_factor_further_past_sequence)]
     fn further(&self, walk: Walk) -> Walk
         ensures { FurtherRead self.now.positions self.now.matcher.above.now self.now.matcher.event.now self.now.matcher.code.now walk result }
@@ -124,7 +126,8 @@ impl Step<'_> {
         }
     }
 
-    // A sequence: factors side by side, at least one. What is found before the first is what is found of `()`.
+    // A sequence: factors side by side, at least one. What is found before the first is what is found of `()`. `past` calls it twice; its loop stands once.
+    #[inline(never)]
     #[cycle(base_factor_further_past_sequence)]
     fn sequence(&self, at: usize, k: usize) -> Walk
         ensures { SequenceRead self.now.positions self.now.matcher.above.now self.now.matcher.event.now self.now.matcher.code.now at k result }
