@@ -8,6 +8,7 @@ mod fast;
 mod layout;
 mod measure;
 mod proved;
+mod same;
 mod session;
 mod sheets;
 // The judge is not measured.
@@ -16,10 +17,22 @@ mod sheets;
 mod stand;
 mod table;
 
-use measure::{same, Case};
-use session::Session;
+use measure::{alike, Case};
+use session::{Answers, Session};
 
-/// The two monitors on every stored session, which has what no sheet here has: refusals above all.
+/// The answers of the proved monitor, with which those of both others agree.
+fn compare(name: &str, session: &Session) -> Answers {
+    let calls = session.calls();
+    let [mut ours, mut tables, mut theirs] = [(); 3].map(|()| session.answers());
+    proved::run(session, calls, &mut ours);
+    fast::run(session, calls, &mut tables);
+    same::run(session, calls, &mut theirs);
+    alike(&format!("{name}, with tables"), &ours, &tables, calls);
+    alike(&format!("{name}, of the same size"), &ours, &theirs, calls);
+    ours
+}
+
+/// The three monitors on every stored session, which has what no sheet here has: refusals above all.
 fn compare_stored(directory: &str) {
     let mut sessions = 0;
     for entry in std::fs::read_dir(directory).expect(directory) {
@@ -28,14 +41,11 @@ fn compare_stored(directory: &str) {
             continue;
         }
         let session = Session::of_bytes(std::fs::read(&path).expect(directory));
-        let (mut ours, mut theirs) = (session.answers(), session.answers());
-        proved::run(&session, session.calls(), &mut ours);
-        fast::run(&session, session.calls(), &mut theirs);
-        same(&path.display().to_string(), &ours, &theirs, session.calls());
+        compare(&path.display().to_string(), &session);
         sessions += 1;
     }
     assert!(sessions > 0, "{directory}: no session");
-    println!("{sessions} stored sessions: the same replies from both");
+    println!("{sessions} stored sessions: the same replies from all three");
 }
 
 /// The acts of an offer, and `z` after runs of every length up to 39: every rule of the sheet has it for a trigger.
@@ -49,20 +59,17 @@ fn asking(acts: &[&'static str]) -> Vec<&'static str> {
     asking
 }
 
-/// The two monitors on a sheet whose rules no act that is measured meets, with acts among those that meet them all: such an act is held by the last of
+/// The three monitors on a sheet whose rules no act that is measured meets, with acts among those that meet them all: such an act is held by the last of
 /// the rules whose past matches, so that the positions show.
 fn compare_asked(name: &str) {
     let offer = sheets::offer(name);
     let acts = asking(offer.acts);
     let session = Session::new(&offer.sheet, &acts, acts.len());
-    let (mut ours, mut theirs) = (session.answers(), session.answers());
-    proved::run(&session, session.calls(), &mut ours);
-    fast::run(&session, session.calls(), &mut theirs);
-    same(name, &ours, &theirs, session.calls());
+    let ours = compare(name, &session);
     let held = |k: &usize| ours.all_begin(*k..k + 1, "H 01");
     let held = (0..session.calls()).filter(held).count();
     assert!(held > 0, "{name}: no act is held");
-    println!("{name}, {held} acts held: the same replies from both");
+    println!("{name}, {held} acts held: the same replies from all three");
 }
 
 /// One row: `count` acts, after the sheet and `before` acts.
@@ -121,12 +128,18 @@ fn all() {
     state("long, the state", "long");
 }
 
-/// One run of the proved monitor alone.
-fn once(offer: &str, count: &str) {
+/// One run of one monitor alone.
+fn once(monitor: &str, offer: &str, count: &str) {
     let offer = sheets::offer(offer);
     let count = count.parse().expect("a count of acts");
     let session = Session::new(&offer.sheet, offer.acts, count);
-    proved::run(&session, session.calls(), &mut session.answers());
+    let (calls, mut answers) = (session.calls(), session.answers());
+    match monitor {
+        "proved" => proved::run(&session, calls, &mut answers),
+        "tables" => drop(fast::run(&session, calls, &mut answers)),
+        "same" => drop(same::run(&session, calls, &mut answers)),
+        _ => panic!("no monitor {monitor}: proved, tables, same"),
+    }
 }
 
 fn main() {
@@ -139,7 +152,8 @@ fn main() {
             println!();
             all();
         }
-        ["run", offer, count] => once(offer, count),
+        ["run", offer, count] => once("proved", offer, count),
+        ["run", monitor, offer, count] => once(monitor, offer, count),
         _ => panic!("give the directory of the stored sessions"),
     }
 }

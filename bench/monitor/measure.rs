@@ -25,7 +25,7 @@ const ENOUGH: f64 = 2e9;
 const ROUNDS: usize = 6;
 
 /// Stops the program where the answers differ: nothing is timed that is not the same work.
-pub fn same(name: &str, ours: &Answers, theirs: &Answers, calls: usize) {
+pub fn alike(name: &str, ours: &Answers, theirs: &Answers, calls: usize) {
     let differ = |k: &usize| {
         let reply = k * 50..k * 50 + 50;
         ours.numbers[*k] != theirs.numbers[*k]
@@ -38,7 +38,7 @@ pub fn same(name: &str, ours: &Answers, theirs: &Answers, calls: usize) {
 
 impl Case<'_> {
     fn check(&self, ours: &Answers, theirs: &Answers) {
-        same(self.name, ours, theirs, self.to);
+        alike(self.name, ours, theirs, self.to);
         let alike = ours.all_begin(self.from..self.to, self.reply);
         assert!(alike, "{}: not every reply is {}", self.name, self.reply);
     }

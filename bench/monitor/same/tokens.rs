@@ -1,0 +1,100 @@
+//! The tokens of a text, one after another with nothing kept.
+
+use super::text::{pack, used, Text, SPACES};
+
+pub const ROLE: u64 = pack(b"role");
+pub const UNDER: u64 = pack(b"under");
+pub const RULE: u64 = pack(b"rule");
+pub const ANY: u64 = pack(b"any");
+pub const NOT: u64 = pack(b"not");
+pub const OR: u64 = pack(b"or");
+pub const PASS: u64 = pack(b"pass");
+pub const HOLD: u64 = pack(b"hold");
+pub const SEND: u64 = pack(b"send");
+pub const ANEW: u64 = pack(b"anew");
+
+/// A word of at most eight bytes, packed.
+#[derive(Clone, Copy, PartialEq)]
+pub struct Word(pub u64);
+
+#[derive(Clone, Copy)]
+pub enum Token {
+    End,
+    Word(Word),
+    Mark(u8),
+    /// A longer word, or a byte that stands in no token.
+    Other,
+}
+
+pub struct Tokens<'a> {
+    left: &'a [u8],
+}
+
+impl Word {
+    pub fn is_name(self) -> bool {
+        let first = self.0 as u8;
+        first.is_ascii_lowercase() && !self.is_reserved()
+    }
+
+    /// The word of one digit.
+    pub fn digit(self) -> Option<u8> {
+        let first = self.0 as u8;
+        (first.is_ascii_digit() && self.0 == pack(&[first])).then_some(first)
+    }
+
+    fn is_reserved(self) -> bool {
+        matches!(
+            self.0,
+            ROLE | UNDER | RULE | ANY | NOT | OR | PASS | HOLD | SEND | ANEW
+        )
+    }
+}
+
+fn in_word(byte: u8) -> bool {
+    matches!(byte, b'a'..=b'z' | b'0'..=b'9' | b'-')
+}
+
+impl<'a> Tokens<'a> {
+    pub fn new(text: &'a Text) -> Tokens<'a> {
+        Tokens {
+            left: &text[..used(text)],
+        }
+    }
+
+    /// Takes the first token off.
+    pub fn next(&mut self) -> Token {
+        while let [b' ', left @ ..] = self.left {
+            self.left = left;
+        }
+        let [first, left @ ..] = self.left else {
+            return Token::End;
+        };
+        if in_word(*first) {
+            return self.word();
+        }
+        self.left = left;
+        match first {
+            b':' | b';' | b'(' | b')' | b'[' | b']' | b'<' | b'>' | b'+' | b'*' | b'#' => {
+                Token::Mark(*first)
+            }
+            _ => Token::Other,
+        }
+    }
+
+    fn word(&mut self) -> Token {
+        let mut packed = SPACES;
+        let mut length = 0;
+        while let Some(&byte) = self.left.get(length) {
+            if !in_word(byte) {
+                break;
+            }
+            packed ^= u64::from(byte ^ b' ') << (8 * (length % 8));
+            length += 1;
+        }
+        self.left = &self.left[length..];
+        if length > 8 {
+            return Token::Other;
+        }
+        Token::Word(Word(packed))
+    }
+}
