@@ -1,6 +1,8 @@
 #!/usr/bin/env bash
-# The cost of a call, against a straightforward fast monitor in Rust in the same run (docs/PERFORMANCE.md). No test depends on it.
-# `./bench.sh run SHEET COUNT` answers COUNT acts on a sheet once (bare, light, held, sent, heavy, long, worst), under the command in $UNDER: for a profiler.
+# The cost of an operation, beside two monitors in Rust in the same run (docs/PERFORMANCE.md). No test depends on it.
+# `./bench.sh run [MONITOR] SHEET COUNT [WHAT]` does something on a sheet once (bare, light, held, sent, heavy, long, worst, full), under the command in
+# $UNDER, for a profiler: COUNT acts; or, where WHAT is `batch` or `image`, COUNT batches of acts, or its image restored and kept COUNT times. MONITOR is
+# `proved`, `tables` or `same`.
 set -eu
 cd "$(dirname "$0")"
 command -v rustc > /dev/null || { apt-get update && apt-get install -y rustc; }

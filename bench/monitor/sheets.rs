@@ -67,7 +67,9 @@ pub fn offer(name: &str) -> Offer {
         "heavy" => (heavy(), &HEAVY_ACTS, "C 00"),
         "long" => (long(), &LONG_ACTS, "C 00"),
         "worst" => (worst(), &["c61 c61 c61 c61"], "T 64"),
-        _ => panic!("no sheet {name}: bare, light, held, sent, heavy, long, worst"),
+        // for its image, not for its acts
+        "full" => (full(), &HEAVY_ACTS, ""),
+        _ => panic!("no sheet {name}: bare, light, held, sent, heavy, long, worst, full"),
     };
     Offer { sheet, acts, reply }
 }
@@ -94,6 +96,15 @@ fn heavy() -> Sheet {
 
 /// One role each, each letter in turn in an order that is not the alphabet's.
 const HEAVY_ACTS: [&str; 11] = ["a", "c", "b", "e", "h", "d", "d", "g", "f", "a", "b"];
+
+/// The heavy sheet with as many roles more as there is room for.
+fn full() -> Sheet {
+    let mut lines = heavy();
+    for k in 0..54 {
+        lines.insert(9 + k, role(&format!("more-{k}"), "z"));
+    }
+    lines
+}
 
 /// 32 rules of 51 patterns, which their lines just have room for: 48 times `<>` in three runs, `any*` before each, at other places in each of the first 25 rules; the
 /// last seven are as the first. An act of no roles moves every position on; one with a role leaves those of `any*` alone, of which two stand beyond the first run. The trigger,

@@ -1,4 +1,4 @@
-//! The table of results.
+//! The table of results: the proved monitor, the one in Rust with tables and the one in Rust of the same size.
 
 use crate::measure::Cost;
 
@@ -15,31 +15,31 @@ fn grouped(n: usize) -> String {
     out
 }
 
+/// A row: of each monitor a text, and the ratios of the proved one's number to the others'.
+fn line(name: &str, texts: [String; 3], [ours, tables, size]: [f64; 3], rates: [String; 3]) {
+    let [a, b, c] = texts;
+    let [p, q, r] = rates;
+    let (to_tables, to_size) = (ours / tables, ours / size);
+    println!("{name:<27}{a:>13}{b:>14}{c:>13}{to_tables:>9.2}{to_size:>9.2}{p:>13}{q:>13}{r:>13}");
+}
+
 pub fn head() {
-    let (a, b, c, d, e) = ("proved", "Rust", "ratio", "proved / s", "Rust / s");
-    println!("{:<28}{a:>16}{b:>14}{c:>9}{d:>14}{e:>14}", "");
+    let columns = ["proved", "Rust, tables", "Rust, same"];
+    let [a, b, c] = columns;
+    let (d, e) = ("/ tables", "/ same");
+    println!(
+        "{:<27}{a:>13}{b:>14}{c:>13}{d:>9}{e:>9}{:>13}{:>13}{:>13}",
+        "", "proved / s", "tables / s", "same / s"
+    );
 }
 
 pub fn row(name: &str, cost: Cost) {
-    let (a, b) = (cost.proved, cost.rust);
-    let each = |ns: f64| format!("{} ns", grouped(ns.round().max(0.0) as usize));
-    let rate = |ns: f64| grouped((1e9 / ns) as usize);
-    println!(
-        "{name:<28}{:>16}{:>14}{:>9.1}{:>14}{:>14}",
-        each(a),
-        each(b),
-        a / b,
-        rate(a),
-        rate(b)
-    );
+    let each = cost.map(|ns| format!("{} ns", grouped(ns.round().max(0.0) as usize)));
+    let rate = cost.map(|ns| grouped((1e9 / ns) as usize));
+    line(name, each, cost, rate);
 }
 
-pub fn sizes(name: &str, a: usize, b: usize) {
-    let bytes = |n: usize| format!("{} bytes", grouped(n));
-    println!(
-        "{name:<28}{:>16}{:>14}{:>9.1}",
-        bytes(a),
-        bytes(b),
-        a as f64 / b as f64
-    );
+pub fn sizes(name: &str, sizes: [usize; 3]) {
+    let bytes = sizes.map(|n| format!("{} bytes", grouped(n)));
+    line(name, bytes, sizes.map(|n| n as f64), Default::default());
 }

@@ -4,6 +4,7 @@
 //! answered with no allocation.
 
 mod automaton;
+mod image;
 mod patterns;
 mod reader;
 mod reply;
@@ -17,15 +18,19 @@ use roles::{Roles, MOST_ROLES};
 use rules::Rule;
 use work::End;
 
-use crate::session::{Answers, Session, RECORD, REPLY};
+use crate::host;
+use crate::session::{RECORD, REPLY};
 
 const MOST_RULES: usize = 32;
 const MOST_PATTERNS: usize = 63;
 
-/// `held[i]` is the positions of rule i.
+type Text = [u8; RECORD - 2];
+
+/// `held[i]` is the positions of rule i, and `texts[i]` the line that declared it.
 pub struct Monitor {
     roles: Roles,
     rules: Vec<Rule>,
+    texts: [Text; MOST_RULES],
     held: [u64; MOST_RULES],
 }
 
@@ -34,6 +39,7 @@ impl Monitor {
         Monitor {
             roles: Roles::fresh(),
             rules: Vec::with_capacity(MOST_RULES),
+            texts: [[0; RECORD - 2]; MOST_RULES],
             held: [0; MOST_RULES],
         }
     }
@@ -93,7 +99,7 @@ impl Monitor {
         let unknown = reader.unknown;
         let name = match line {
             Line::Role { name, parent } => self.declare_role(name, parent)?,
-            Line::Rule(rule) => self.declare_rule(rule, unknown)?,
+            Line::Rule(rule) => self.declare_rule(rule, unknown, text)?,
         };
         reply::plain(buffer, b'D', 0, name);
         Ok(())
@@ -117,7 +123,7 @@ impl Monitor {
         Ok(name)
     }
 
-    fn declare_rule(&mut self, rule: Rule, unknown: bool) -> Result<u64, u8> {
+    fn declare_rule(&mut self, rule: Rule, unknown: bool, text: &[u8]) -> Result<u64, u8> {
         self.need_free(rule.name)?;
         if unknown {
             return Err(6);
@@ -130,6 +136,7 @@ impl Monitor {
         }
         let name = rule.name;
         self.held[self.rules.len()] = 1;
+        self.texts[self.rules.len()].copy_from_slice(text);
         self.rules.push(rule);
         Ok(name)
     }
@@ -141,17 +148,20 @@ impl Monitor {
     }
 }
 
-/// The first `calls` calls of a session, from a fresh monitor.
-pub fn run(session: &Session, calls: usize, answers: &mut Answers) -> Monitor {
-    let mut monitor = Monitor::fresh();
-    let mut records = &session.records[..];
-    let mut replies = &mut answers.replies[..];
-    for k in 0..calls {
-        let (record, more) = records.split_at(session.lengths[k] as usize);
-        let (reply, left) = replies.split_at_mut(session.sizes[k] as usize);
-        answers.numbers[k] = monitor.call(record, reply);
-        records = more;
-        replies = left;
+impl host::Monitor for Monitor {
+    fn fresh() -> Monitor {
+        Monitor::fresh()
     }
-    monitor
+
+    fn call(&mut self, record: &[u8], reply: &mut [u8]) -> u8 {
+        self.call(record, reply)
+    }
+
+    fn keep(&self, image: &mut [u8]) -> Result<u32, u8> {
+        self.keep(image)
+    }
+
+    fn restore(&mut self, image: &[u8]) -> Result<(), u8> {
+        self.restore(image)
+    }
 }

@@ -7,7 +7,7 @@ pub const DASH: u64 = pack(b"-");
 const SPACES: u64 = pack(b"");
 
 /// How many bytes a packed name has.
-fn length(name: u64) -> usize {
+pub fn length(name: u64) -> usize {
     8 - ((name ^ SPACES).trailing_zeros() / 8) as usize
 }
 

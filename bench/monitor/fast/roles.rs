@@ -4,10 +4,11 @@ use super::text::{name, next, pack, Token};
 
 pub const MOST_ROLES: usize = 64;
 
-/// The first `count` roles are held. Bit p of `above[r]` says that role r is p or below it.
+/// The first `count` roles are held, with their parents. Bit p of `above[r]` says that role r is p or below it.
 pub struct Roles {
     pub count: usize,
     pub names: [u64; MOST_ROLES],
+    pub parents: [u8; MOST_ROLES],
     pub above: [u64; MOST_ROLES],
 }
 
@@ -23,6 +24,7 @@ impl Roles {
         let mut roles = Roles {
             count: 1,
             names: [0; MOST_ROLES],
+            parents: [0; MOST_ROLES],
             above: [0; MOST_ROLES],
         };
         roles.names[0] = pack(b"top");
@@ -37,6 +39,7 @@ impl Roles {
 
     pub fn join(&mut self, name: u64, parent: u8) {
         self.names[self.count] = name;
+        self.parents[self.count] = parent;
         self.above[self.count] = self.above[parent as usize] | 1 << self.count;
         self.count += 1;
     }

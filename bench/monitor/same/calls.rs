@@ -9,7 +9,7 @@ use super::text::Text;
 use super::walk::Walk;
 
 /// The kind of a record, and its text. The newline, which is looked at too, is the one byte of a record that is not among those from 32 to 126.
-fn framed(record: &[u8]) -> Result<(u8, &Text), u8> {
+pub fn framed(record: &[u8]) -> Result<(u8, &Text), u8> {
     let record: &[u8; 128] = record.try_into().map_err(|_| 2)?;
     let odd = |byte: &u8| u8::from(!matches!(byte, b' '..=b'~'));
     let [kind @ (b'L' | b'E'), text @ .., b'\n'] = record else {

@@ -9,6 +9,7 @@ mod chain;
 mod code;
 mod declare;
 mod event;
+mod image;
 mod patterns;
 mod reply;
 mod state;
@@ -18,20 +19,22 @@ mod walk;
 
 pub use state::Monitor;
 
-use crate::session::{Answers, Session};
+use crate::host;
 
-/// The first `calls` calls of a session, from a fresh monitor.
-#[inline(never)]
-pub fn run(session: &Session, calls: usize, answers: &mut Answers) -> Monitor {
-    let mut monitor = Monitor::fresh();
-    let mut records = &session.records[..];
-    let mut replies = &mut answers.replies[..];
-    for k in 0..calls {
-        let (record, more) = records.split_at(session.lengths[k] as usize);
-        let (reply, left) = replies.split_at_mut(session.sizes[k] as usize);
-        answers.numbers[k] = monitor.call(record, reply);
-        records = more;
-        replies = left;
+impl host::Monitor for Monitor {
+    fn fresh() -> Monitor {
+        Monitor::fresh()
     }
-    monitor
+
+    fn call(&mut self, record: &[u8], reply: &mut [u8]) -> u8 {
+        self.call(record, reply)
+    }
+
+    fn keep(&self, image: &mut [u8]) -> Result<u32, u8> {
+        self.keep(image)
+    }
+
+    fn restore(&mut self, image: &[u8]) -> Result<(), u8> {
+        self.restore(image)
+    }
 }

@@ -1,6 +1,14 @@
 //! Patterns judged over their code.
 
+use std::slice::Iter;
+
 use super::state::{Role, Row};
+
+/// An item met, and the place after it; or the items are judged.
+enum Item {
+    Met(usize),
+    Last(bool),
+}
 
 /// A rule's row, and the roles of the event that it is judged for.
 #[derive(Clone, Copy)]
@@ -15,57 +23,75 @@ impl Matcher<'_> {
         self.row[at % 128]
     }
 
-    /// Whether the event meets the pattern at a place, and where the pattern ends.
-    #[inline(always)]
-    pub fn pattern(&self, at: usize) -> (bool, usize) {
-        match self.byte(at) {
-            b'a' => (true, at + 1),
-            b'<' => self.items(at + 1),
-            _ => {
-                let (met, end) = self.condition(at + 1);
-                (met, end + 1)
-            }
-        }
+    /// A condition in square brackets, after the first of them: whether it is met, and where the pattern ends.
+    pub fn bracketed(&self, at: usize) -> (bool, usize) {
+        let (met, end) = self.condition(at);
+        (met, end + 1)
     }
 
     /// Whether the event meets the pattern at a place, whose end is not asked.
     pub fn meets(&self, at: usize) -> bool {
         match self.byte(at) {
             b'a' => true,
-            b'<' => self.all_met(at + 1).0,
+            b'<' => self.all_met(at + 1),
             _ => self.condition(at + 1).0,
         }
     }
 
-    /// Items, after `<`. As soon as one is not met, the rest is passed over.
+    /// Items, after `<`: whether all are met, and where they end. As soon as one is not met, the rest is passed over.
     #[inline(always)]
-    fn items(&self, at: usize) -> (bool, usize) {
-        let (met, mut end) = self.all_met(at);
-        while self.byte(end) != b'>' {
-            end += 1;
-        }
-        (met, end + 1)
-    }
-
-    /// Whether the items are met, and a place that is not beyond their `>`.
-    #[inline(always)]
-    fn all_met(&self, mut at: usize) -> (bool, usize) {
+    pub fn items(&self, mut at: usize) -> (bool, usize) {
         let mut roles = self.roles.iter();
         loop {
-            let met = match self.byte(at) {
-                b'>' => return (roles.len() == 0, at),
-                b'*' => return (true, at + 1),
-                b'+' => {
-                    at += 1;
-                    let named = self.byte(at) % 64;
-                    roles.next().is_some_and(|r| r.above >> named & 1 == 1)
-                }
-                named => roles.next().is_some_and(|r| r.byte == named),
-            };
-            at += 1;
-            if !met {
-                return (false, at);
+            match self.item(at, &mut roles) {
+                Item::Met(after) => at = after,
+                Item::Last(met) => return (met, self.after_items(at)),
             }
+        }
+    }
+
+    /// Where items end.
+    #[inline(always)]
+    fn after_items(&self, mut at: usize) -> usize {
+        while self.byte(at) != b'>' {
+            at += 1;
+        }
+        at + 1
+    }
+
+    /// Whether the items after `<` are all met.
+    #[inline(always)]
+    fn all_met(&self, mut at: usize) -> bool {
+        let mut roles = self.roles.iter();
+        loop {
+            match self.item(at, &mut roles) {
+                Item::Met(after) => at = after,
+                Item::Last(met) => return met,
+            }
+        }
+    }
+
+    /// An item and the role for it, or what ends the items.
+    #[inline(always)]
+    fn item(&self, at: usize, roles: &mut Iter<Role>) -> Item {
+        let byte = self.byte(at);
+        if byte == b'>' {
+            return Item::Last(roles.len() == 0);
+        }
+        if byte == b'*' {
+            return Item::Last(true);
+        }
+        let Some(role) = roles.next() else {
+            return Item::Last(false);
+        };
+        let (met, after) = match byte {
+            b'+' => (role.above >> (self.byte(at + 1) % 64) & 1 == 1, at + 2),
+            named => (role.byte == named, at + 1),
+        };
+        if met {
+            Item::Met(after)
+        } else {
+            Item::Last(false)
         }
     }
 

@@ -1,8 +1,11 @@
 //! One pass over a past's code for one event.
+//!
+//! Whether a place in a past is reached is kept as a set: that of the next pattern alone, or the empty one. A pattern is then gone through with no branch by
+//! what is reached.
 
 use super::patterns::Matcher;
 
-/// How far the pass is: the place in the code, the position of the next pattern as a set of it alone, and the positions after the event found so far.
+/// How far the pass is: the place in the code, the next pattern as a set of it alone, and the positions after the event found so far.
 #[derive(Clone, Copy)]
 struct Pass {
     at: usize,
@@ -10,11 +13,11 @@ struct Pass {
     moved: u64,
 }
 
-/// A part of a past, entered or not: whether a position held leads to its end, whether it may be empty, and the patterns that may begin it and that the event
-/// meets.
+/// A part of a past that has been gone through: whether a position held leads to its end, whether it may be empty, and the patterns that may begin it and
+/// that the event meets. The last two are asked inside brackets alone.
 #[derive(Clone, Copy)]
 struct Part {
-    left: bool,
+    reached: bool,
     empty: bool,
     first: u64,
 }
@@ -22,6 +25,14 @@ struct Part {
 pub struct Walk<'a> {
     pub matcher: Matcher<'a>,
     pub held: u64,
+}
+
+fn only_if(b: bool, set: u64) -> u64 {
+    if b {
+        set
+    } else {
+        0
+    }
 }
 
 impl Walk<'_> {
@@ -36,79 +47,91 @@ impl Walk<'_> {
     }
 
     /// Sequences joined by `+`.
-    fn past<const INSIDE: bool>(&self, pass: Pass, entered: bool) -> (Pass, Part) {
-        let (mut pass, mut all) = self.sequence::<INSIDE>(pass, entered);
-        while self.matcher.byte(pass.at) == b'+' {
-            pass.at += 1;
-            let (after, side) = self.sequence::<INSIDE>(pass, entered);
-            pass = after;
-            all.left |= side.left;
-            all.empty |= side.empty;
-            all.first |= side.first;
-        }
-        (pass, all)
-    }
-
-    /// Factors side by side. What may begin it is asked inside brackets alone.
-    fn sequence<const INSIDE: bool>(&self, mut pass: Pass, entered: bool) -> (Pass, Part) {
+    #[inline]
+    fn past<const INSIDE: bool>(&self, mut pass: Pass, entered: bool) -> (Pass, Part) {
         let mut all = Part {
-            left: entered,
-            empty: INSIDE,
+            reached: false,
+            empty: false,
             first: 0,
         };
         loop {
-            match self.matcher.byte(pass.at) {
-                b'a' | b'<' | b'[' => self.pattern(&mut pass, &mut all),
-                b'(' => self.bracket(&mut pass, &mut all),
-                _ => return (pass, all),
+            let (after, side) = self.sequence::<INSIDE>(pass, entered);
+            pass = after;
+            all.reached |= side.reached;
+            all.empty |= side.empty;
+            all.first |= side.first;
+            if self.matcher.byte(pass.at) != b'+' {
+                return (pass, all);
             }
-        }
-    }
-
-    /// Passes the stars after a base, and says whether there are any.
-    #[inline(always)]
-    fn stars(&self, pass: &mut Pass) -> bool {
-        let base = pass.at;
-        while self.matcher.byte(pass.at) == b'*' {
             pass.at += 1;
         }
-        pass.at > base
     }
 
-    /// A pattern and its stars, after all that stands before it.
-    #[inline(always)]
-    fn pattern(&self, pass: &mut Pass, all: &mut Part) {
-        let (met, end) = self.matcher.pattern(pass.at);
-        pass.at = end;
-        let star = self.stars(pass);
-        let held = self.held & pass.next != 0;
-        let entered = all.left | (star & held);
-        if met {
-            pass.moved |= if entered { pass.next } else { 0 };
-            all.first |= if all.empty { pass.next } else { 0 };
+    /// Factors side by side.
+    #[inline]
+    fn sequence<const INSIDE: bool>(&self, mut pass: Pass, entered: bool) -> (Pass, Part) {
+        let mut reached = only_if(entered, pass.next);
+        let mut begins = only_if(INSIDE, pass.next);
+        let mut first = 0;
+        loop {
+            let (met, end) = match self.matcher.byte(pass.at) {
+                b'a' => (true, pass.at + 1),
+                b'<' => self.matcher.items(pass.at + 1),
+                b'[' => self.matcher.bracketed(pass.at + 1),
+                // one star says as much as many
+                b'*' => {
+                    pass.at += 1;
+                    continue;
+                }
+                b'(' => {
+                    let (after, part) = self.bracket(pass, reached != 0);
+                    pass = after;
+                    first |= only_if(begins != 0, part.first);
+                    begins = only_if(begins != 0 && part.empty, pass.next);
+                    reached = only_if(part.reached, pass.next);
+                    continue;
+                }
+                _ => break,
+            };
+            let star = self.matcher.byte(end) == b'*';
+            pass.at = end + usize::from(star);
+            let held = self.held & pass.next;
+            let entered = reached | only_if(star, held);
+            pass.moved |= only_if(met, entered);
+            first |= only_if(met, begins);
+            reached = (held | only_if(star, reached)) << 1;
+            begins = only_if(star, begins) << 1;
+            pass.next <<= 1;
         }
-        all.left = held | (star & all.left);
-        all.empty &= star;
-        pass.next <<= 1;
+        let part = Part {
+            reached: reached != 0,
+            empty: begins != 0,
+            first,
+        };
+        (pass, part)
     }
 
-    /// What stands in round brackets, and the stars after it. Where a position held leads to its end, a star enters it again.
-    fn bracket(&self, pass: &mut Pass, all: &mut Part) {
+    /// What stands in round brackets, and a star after it. Where a position held leads to its end, a star enters it again.
+    #[inline(never)]
+    fn bracket(&self, mut pass: Pass, entered: bool) -> (Pass, Part) {
         pass.at += 1;
         if self.matcher.byte(pass.at) == b')' {
             pass.at += 1;
-            self.stars(pass);
-            return;
+            let part = Part {
+                reached: entered,
+                empty: true,
+                first: 0,
+            };
+            return (pass, part);
         }
-        let (after, inside) = self.past::<true>(*pass, all.left);
-        *pass = after;
+        let (mut pass, mut part) = self.past::<true>(pass, entered);
         pass.at += 1;
-        let star = self.stars(pass);
-        if star && inside.left {
-            pass.moved |= inside.first;
+        if self.matcher.byte(pass.at) == b'*' {
+            pass.at += 1;
+            pass.moved |= only_if(part.reached, part.first);
+            part.reached |= entered;
+            part.empty = true;
         }
-        all.first |= if all.empty { inside.first } else { 0 };
-        all.left = inside.left | (star & all.left);
-        all.empty &= inside.empty | star;
+        (pass, part)
     }
 }
