@@ -1,14 +1,7 @@
 //! Patterns judged over their code.
 
-use std::slice::Iter;
-
 use super::state::{Role, Row};
-
-/// An item met, and the place after it; or the items are judged.
-enum Item {
-    Met(usize),
-    Last(bool),
-}
+use super::text::before;
 
 /// A rule's row, and the roles of the event that it is judged for.
 #[derive(Clone, Copy)]
@@ -38,74 +31,75 @@ impl Matcher<'_> {
         }
     }
 
-    /// Items, after `<`: whether all are met, and where they end. As soon as one is not met, the rest is passed over.
+    /// Items, after `<`: whether all are met, and where they end. The first that is not met decides, and the rest is passed over.
     #[inline(always)]
     pub fn items(&self, mut at: usize) -> (bool, usize) {
-        let mut roles = self.roles.iter();
-        loop {
-            match self.item(at, &mut roles) {
-                Item::Met(after) => at = after,
-                Item::Last(met) => return (met, self.after_items(at)),
+        for role in self.roles {
+            match self.byte(at) {
+                byte if byte == role.byte => at += 1,
+                128.. => return (false, self.after_items(at + 1)),
+                b'+' if role.is_below(self.byte(at + 1)) => at += 2,
+                b'+' => return (false, self.after_items(at + 2)),
+                b'>' => return (false, at + 1),
+                _ => return (true, at + 2),
             }
         }
-    }
-
-    /// Where items end.
-    #[inline(always)]
-    fn after_items(&self, mut at: usize) -> usize {
-        while self.byte(at) != b'>' {
-            at += 1;
+        match self.byte(at) {
+            b'>' => (true, at + 1),
+            b'*' => (true, at + 2),
+            _ => (false, self.after_items(at + 1)),
         }
-        at + 1
     }
 
     /// Whether the items after `<` are all met.
     #[inline(always)]
     fn all_met(&self, mut at: usize) -> bool {
-        let mut roles = self.roles.iter();
-        loop {
-            match self.item(at, &mut roles) {
-                Item::Met(after) => at = after,
-                Item::Last(met) => return met,
+        for role in self.roles {
+            match self.byte(at) {
+                byte if byte == role.byte => at += 1,
+                b'+' if role.is_below(self.byte(at + 1)) => at += 2,
+                byte => return byte == b'*',
             }
         }
+        matches!(self.byte(at), b'>' | b'*')
     }
 
-    /// An item and the role for it, or what ends the items.
+    /// Where the items end that a place stands in, or whose `>` stands there.
     #[inline(always)]
-    fn item(&self, at: usize, roles: &mut Iter<Role>) -> Item {
-        let byte = self.byte(at);
-        if byte == b'>' {
-            return Item::Last(roles.len() == 0);
+    fn after_items(&self, at: usize) -> usize {
+        if self.byte(at) == b'>' {
+            return at + 1;
         }
-        if byte == b'*' {
-            return Item::Last(true);
+        self.far_after(at + 1)
+    }
+
+    /// The same, looked for in eight bytes at once.
+    fn far_after(&self, mut at: usize) -> usize {
+        while let Some(code) = self.row.get(at..at + 8) {
+            let before = before(b'>', u64::from_le_bytes(code.try_into().unwrap()));
+            if before < 8 {
+                return at + before + 1;
+            }
+            at += 8;
         }
-        let Some(role) = roles.next() else {
-            return Item::Last(false);
-        };
-        let (met, after) = match byte {
-            b'+' => (role.above >> (self.byte(at + 1) % 64) & 1 == 1, at + 2),
-            named => (role.byte == named, at + 1),
-        };
-        if met {
-            Item::Met(after)
-        } else {
-            Item::Last(false)
+        let left = self.row.iter().skip(at);
+        at + 1 + left.take_while(|&&byte| byte != b'>').count()
+    }
+
+    /// Terms joined by `or`: whether one is met, and where they end.
+    fn condition(&self, mut at: usize) -> (bool, usize) {
+        let mut met = false;
+        loop {
+            let (one, end) = self.term(at);
+            met |= one;
+            if self.byte(end) != b'o' {
+                return (met, end);
+            }
+            at = end + 1;
         }
     }
 
-    /// Terms joined by `or`, and where they end.
-    fn condition(&self, at: usize) -> (bool, usize) {
-        let (mut met, mut end) = self.term(at);
-        while self.byte(end) == b'o' {
-            let (other, after) = self.term(end + 1);
-            met |= other;
-            end = after;
-        }
-        (met, end)
-    }
-
+    #[inline(always)]
     fn term(&self, mut at: usize) -> (bool, usize) {
         let mut not = false;
         while self.byte(at) == b'n' {

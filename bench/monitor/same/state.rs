@@ -37,6 +37,13 @@ pub struct Role {
     pub above: u64,
 }
 
+impl Role {
+    /// Whether it is the role that a byte of code names, or below it.
+    pub fn is_below(&self, named: u8) -> bool {
+        self.above >> (named % 64) & 1 == 1
+    }
+}
+
 impl Sheet {
     pub fn find(&self, name: u64) -> Option<u8> {
         let held = &self.names[..self.role_count.min(MOST_ROLES)];

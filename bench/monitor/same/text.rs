@@ -42,14 +42,24 @@ pub fn spaces(eight: u64) -> usize {
     (eight ^ SPACES).trailing_zeros() as usize / 8
 }
 
+/// The high bit of the first of eight bytes that is this one, and maybe of later ones.
+fn places(byte: u8, eight: u64) -> u64 {
+    let odd = eight ^ repeat(byte);
+    odd.wrapping_sub(repeat(1)) & !odd & repeat(0x80)
+}
+
+/// How many of eight bytes stand before the first that is this one.
+pub fn before(byte: u8, eight: u64) -> usize {
+    places(byte, eight).trailing_zeros() as usize / 8
+}
+
 /// How many of eight bytes stand before the first space, and these bytes as a packed name.
 pub fn before_space(eight: u64) -> (usize, u64) {
-    let odd = eight ^ SPACES;
-    // the high bit of the first byte that is a space, and maybe of later ones
-    let space = odd.wrapping_sub(repeat(1)) & !odd & repeat(0x80);
+    let space = places(b' ', eight);
     let lowest = space & space.wrapping_neg();
     let front = (lowest >> 7).wrapping_sub(1);
-    (space.trailing_zeros() as usize / 8, (odd & front) ^ SPACES)
+    let name = (eight & front) | (SPACES & !front);
+    (space.trailing_zeros() as usize / 8, name)
 }
 
 /// How many bytes a text has without the spaces at its end, or some more: blocks of spaces are left out whole.

@@ -1,6 +1,6 @@
 //! The tokens of a text, one after another with nothing kept.
 
-use super::text::{pack, used, Text, SPACES};
+use super::text::{pack, used, Text};
 
 pub const ROLE: u64 = pack(b"role");
 pub const UNDER: u64 = pack(b"under");
@@ -51,7 +51,14 @@ impl Word {
 }
 
 fn in_word(byte: u8) -> bool {
-    matches!(byte, b'a'..=b'z' | b'0'..=b'9' | b'-')
+    byte.is_ascii_lowercase() || byte.is_ascii_digit() || byte == b'-'
+}
+
+fn is_mark(byte: u8) -> bool {
+    matches!(
+        byte,
+        b':' | b';' | b'(' | b')' | b'[' | b']' | b'<' | b'>' | b'+' | b'*' | b'#'
+    )
 }
 
 impl<'a> Tokens<'a> {
@@ -63,38 +70,29 @@ impl<'a> Tokens<'a> {
 
     /// Takes the first token off.
     pub fn next(&mut self) -> Token {
-        while let [b' ', left @ ..] = self.left {
-            self.left = left;
-        }
-        let [first, left @ ..] = self.left else {
-            return Token::End;
-        };
-        if in_word(*first) {
-            return self.word();
-        }
-        self.left = left;
-        match first {
-            b':' | b';' | b'(' | b')' | b'[' | b']' | b'<' | b'>' | b'+' | b'*' | b'#' => {
-                Token::Mark(*first)
+        while let [first, left @ ..] = self.left {
+            if in_word(*first) {
+                return self.word();
             }
-            _ => Token::Other,
+            self.left = left;
+            if is_mark(*first) {
+                return Token::Mark(*first);
+            }
+            if *first != b' ' {
+                return Token::Other;
+            }
         }
+        Token::End
     }
 
+    #[inline(always)]
     fn word(&mut self) -> Token {
-        let mut packed = SPACES;
-        let mut length = 0;
-        while let Some(&byte) = self.left.get(length) {
-            if !in_word(byte) {
-                break;
-            }
-            packed ^= u64::from(byte ^ b' ') << (8 * (length % 8));
-            length += 1;
-        }
-        self.left = &self.left[length..];
+        let length = self.left.iter().take_while(|byte| in_word(**byte)).count();
+        let (bytes, left) = self.left.split_at(length);
+        self.left = left;
         if length > 8 {
             return Token::Other;
         }
-        Token::Word(Word(packed))
+        Token::Word(Word(pack(bytes)))
     }
 }

@@ -22,6 +22,7 @@ struct Part {
     first: u64,
 }
 
+#[derive(Clone, Copy)]
 pub struct Walk<'a> {
     pub matcher: Matcher<'a>,
     pub held: u64,
@@ -69,46 +70,51 @@ impl Walk<'_> {
 
     /// Factors side by side.
     #[inline]
-    fn sequence<const INSIDE: bool>(&self, mut pass: Pass, entered: bool) -> (Pass, Part) {
-        let mut reached = only_if(entered, pass.next);
-        let mut begins = only_if(INSIDE, pass.next);
+    fn sequence<const INSIDE: bool>(&self, pass: Pass, entered: bool) -> (Pass, Part) {
+        let Walk { matcher, held } = *self;
+        let Pass {
+            mut at,
+            mut next,
+            mut moved,
+        } = pass;
+        let mut reached = only_if(entered, next);
+        let mut begins = only_if(INSIDE, next);
         let mut first = 0;
         loop {
-            let (met, end) = match self.matcher.byte(pass.at) {
-                b'a' => (true, pass.at + 1),
-                b'<' => self.matcher.items(pass.at + 1),
-                b'[' => self.matcher.bracketed(pass.at + 1),
-                // one star says as much as many
-                b'*' => {
-                    pass.at += 1;
+            let (met, end) = match matcher.byte(at) {
+                b'<' => matcher.items(at + 1),
+                b'a' => (true, at + 1),
+                b'[' => matcher.bracketed(at + 1),
+                b'(' => {
+                    let (pass, part) = self.bracket(Pass { at, next, moved }, reached != 0);
+                    Pass { at, next, moved } = pass;
+                    first |= only_if(begins != 0, part.first);
+                    begins = only_if(begins != 0 && part.empty, next);
+                    reached = only_if(part.reached, next);
                     continue;
                 }
-                b'(' => {
-                    let (after, part) = self.bracket(pass, reached != 0);
-                    pass = after;
-                    first |= only_if(begins != 0, part.first);
-                    begins = only_if(begins != 0 && part.empty, pass.next);
-                    reached = only_if(part.reached, pass.next);
+                // one star says as much as many
+                b'*' => {
+                    at += 1;
                     continue;
                 }
                 _ => break,
             };
-            let star = self.matcher.byte(end) == b'*';
-            pass.at = end + usize::from(star);
-            let held = self.held & pass.next;
-            let entered = reached | only_if(star, held);
-            pass.moved |= only_if(met, entered);
+            let star = matcher.byte(end) == b'*';
+            at = end + usize::from(star);
+            let held = held & next;
+            moved |= only_if(met, reached | only_if(star, held));
             first |= only_if(met, begins);
             reached = (held | only_if(star, reached)) << 1;
             begins = only_if(star, begins) << 1;
-            pass.next <<= 1;
+            next <<= 1;
         }
         let part = Part {
             reached: reached != 0,
             empty: begins != 0,
             first,
         };
-        (pass, part)
+        (Pass { at, next, moved }, part)
     }
 
     /// What stands in round brackets, and a star after it. Where a position held leads to its end, a star enters it again.
