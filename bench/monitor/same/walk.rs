@@ -1,17 +1,9 @@
-//! One pass over a past's code for one event.
-//!
-//! Whether a place in a past is reached is kept as a set: that of the next pattern alone, or the empty one. A pattern is then gone through with no branch by
-//! what is reached.
+//! One pass over a past's code for one event. A pattern is gone through with no branch by what is reached.
 
 use super::patterns::Matcher;
 
 /// How far the pass is: the place in the code, the next pattern as a set of it alone, and the positions after the event found so far.
-#[derive(Clone, Copy)]
-struct Pass {
-    at: usize,
-    next: u64,
-    moved: u64,
-}
+type Pass = (usize, u64, u64);
 
 /// A part of a past that has been gone through: whether a position held leads to its end, whether it may be empty, and the patterns that may begin it and
 /// that the event meets. The last two are asked inside brackets alone.
@@ -28,6 +20,42 @@ pub struct Walk<'a> {
     pub held: u64,
 }
 
+/// What a sequence has found so far. Whether its next pattern is reached by a position held, and whether it may begin the sequence, are sets: that pattern
+/// alone, or none.
+#[derive(Clone, Copy)]
+struct Found {
+    reached: u64,
+    begins: u64,
+    first: u64,
+}
+
+impl Found {
+    /// One more pattern, which is held or not: the position that the event leads to there.
+    #[inline(always)]
+    fn add_pattern(&mut self, met: bool, star: bool, held: u64) -> u64 {
+        let entered = self.reached | only_if(star, held);
+        self.first |= only_if(met, self.begins);
+        self.reached = (held | only_if(star, self.reached)) << 1;
+        self.begins = only_if(star, self.begins) << 1;
+        only_if(met, entered)
+    }
+
+    /// One more part, before the pattern `next`.
+    fn add_part(&mut self, part: Part, next: u64) {
+        self.first |= only_if(self.begins != 0, part.first);
+        self.begins = only_if(self.begins != 0 && part.empty, next);
+        self.reached = only_if(part.reached, next);
+    }
+
+    fn part(self) -> Part {
+        Part {
+            reached: self.reached != 0,
+            empty: self.begins != 0,
+            first: self.first,
+        }
+    }
+}
+
 fn only_if(b: bool, set: u64) -> u64 {
     if b {
         set
@@ -39,12 +67,8 @@ fn only_if(b: bool, set: u64) -> u64 {
 impl Walk<'_> {
     /// The positions after the event. The past stands at `at`.
     pub fn moved(&self, at: usize) -> u64 {
-        let pass = Pass {
-            at,
-            next: 2,
-            moved: 0,
-        };
-        self.past::<false>(pass, self.held & 1 == 1).0.moved
+        let ((_, _, moved), _) = self.past::<false>((at, 2, 0), self.held & 1 == 1);
+        moved
     }
 
     /// Sequences joined by `+`.
@@ -61,36 +85,32 @@ impl Walk<'_> {
             all.reached |= side.reached;
             all.empty |= side.empty;
             all.first |= side.first;
-            if self.matcher.byte(pass.at) != b'+' {
+            if self.matcher.byte(pass.0) != b'+' {
                 return (pass, all);
             }
-            pass.at += 1;
+            pass.0 += 1;
         }
     }
 
     /// Factors side by side.
     #[inline]
     fn sequence<const INSIDE: bool>(&self, pass: Pass, entered: bool) -> (Pass, Part) {
-        let Walk { matcher, held } = *self;
-        let Pass {
-            mut at,
-            mut next,
-            mut moved,
-        } = pass;
-        let mut reached = only_if(entered, next);
-        let mut begins = only_if(INSIDE, next);
-        let mut first = 0;
+        let matcher = self.matcher;
+        let (mut at, mut next, mut moved) = pass;
+        let mut found = Found {
+            reached: only_if(entered, next),
+            begins: only_if(INSIDE, next),
+            first: 0,
+        };
         loop {
             let (met, end) = match matcher.byte(at) {
                 b'<' => matcher.items(at + 1),
                 b'a' => (true, at + 1),
                 b'[' => matcher.bracketed(at + 1),
                 b'(' => {
-                    let (pass, part) = self.bracket(Pass { at, next, moved }, reached != 0);
-                    Pass { at, next, moved } = pass;
-                    first |= only_if(begins != 0, part.first);
-                    begins = only_if(begins != 0 && part.empty, next);
-                    reached = only_if(part.reached, next);
+                    let (pass, part) = self.bracket((at, next, moved), found.reached != 0);
+                    (at, next, moved) = pass;
+                    found.add_part(part, next);
                     continue;
                 }
                 // one star says as much as many
@@ -98,46 +118,35 @@ impl Walk<'_> {
                     at += 1;
                     continue;
                 }
-                _ => break,
+                _ => return ((at, next, moved), found.part()),
             };
             let star = matcher.byte(end) == b'*';
+            moved |= found.add_pattern(met, star, self.held & next);
             at = end + usize::from(star);
-            let held = held & next;
-            moved |= only_if(met, reached | only_if(star, held));
-            first |= only_if(met, begins);
-            reached = (held | only_if(star, reached)) << 1;
-            begins = only_if(star, begins) << 1;
             next <<= 1;
         }
-        let part = Part {
-            reached: reached != 0,
-            empty: begins != 0,
-            first,
-        };
-        (Pass { at, next, moved }, part)
     }
 
     /// What stands in round brackets, and a star after it. Where a position held leads to its end, a star enters it again.
     #[inline(never)]
-    fn bracket(&self, mut pass: Pass, entered: bool) -> (Pass, Part) {
-        pass.at += 1;
-        if self.matcher.byte(pass.at) == b')' {
-            pass.at += 1;
+    fn bracket(&self, (at, next, moved): Pass, entered: bool) -> (Pass, Part) {
+        if self.matcher.byte(at + 1) == b')' {
             let part = Part {
                 reached: entered,
                 empty: true,
                 first: 0,
             };
-            return (pass, part);
+            return ((at + 2, next, moved), part);
         }
-        let (mut pass, mut part) = self.past::<true>(pass, entered);
-        pass.at += 1;
-        if self.matcher.byte(pass.at) == b'*' {
-            pass.at += 1;
-            pass.moved |= only_if(part.reached, part.first);
+        let (pass, mut part) = self.past::<true>((at + 1, next, moved), entered);
+        let (mut at, next, mut moved) = pass;
+        at += 1;
+        if self.matcher.byte(at) == b'*' {
+            at += 1;
+            moved |= only_if(part.reached, part.first);
             part.reached |= entered;
             part.empty = true;
         }
-        (pass, part)
+        ((at, next, moved), part)
     }
 }
