@@ -1,6 +1,6 @@
 -- What each way through `items_end`, `met_item` and `items` shows.
 -- Assumes nothing.
-use Rattle.std.proofs.Common.{◌≡◌, refl, sym, ap, ◌∙◌, Bool, true, false, cond, Some, None, ◌&&◌, List, ◌++◌, ℕ, ◌+◌, ◌-◌, ◌<◌, ◌≤◌, add-one, arith, eqb, ltb, leb, length, get_or, drop, drop_of_length-le, drop-cons, ltb-true, ltb-false, lt-ltb, le-ltb, le-leb, eq-eqb, ne_eqb}
+use Rattle.std.proofs.Common.{◌≡◌, refl, sym, ap, ◌∙◌, Bool, true, false, cond, Some, None, ◌&&◌, List, ◌++◌, ℕ, ◌+◌, ◌<◌, ◌≤◌, add-one, arith, eqb, ltb, leb, length, get_or, drop, drop_of_length-le, drop-cons, ltb-true, ltb-false, lt-ltb, le-ltb, le-leb, eq-eqb, ne_eqb}
 use Rattle.std.proofs.Math.Nat.{add-sub_cancel_left}
 use Rattle.std.proofs.lemmas.Bool.{lt-leb, false≢true}
 use Rattle.std.proofs.lemmas.Option.{cond_some, none-some}
@@ -8,7 +8,7 @@ use Rattle.common.proofs.Bools.{and_right}
 use Rattle.grammar.specs.Trees.{Item, exact, below, Items, close, star_close, item}
 use Rattle.code.specs.Trees.{code_items}
 use Rattle.patterns.specs.Meets.{item_meets, items_meet}
-use Rattle.patterns.specs.Judged.{order_by, is_of, role_at, met_item, ItemsEnd, ItemsRead}
+use Rattle.patterns.specs.Judged.{order_by, is_of, names_role, role_at, met_item, ItemsEnd, ItemsRead}
 use Rattle.patterns.specs.declared.judge.Judged.{Judged}
 use Rattle.patterns.proofs.Here.{none, here}
 
@@ -46,10 +46,15 @@ module _ (code : List ℕ) (at : ℕ) where
       go (item (below p) xs) rest e = omega (arith, ih.right (item (exact p) xs) rest (here code at _ _ e).next)
 
 -- ---- one item
+-- the byte of a name stands for its role
+pub named-role : (above : List ℕ) (w : Bool) (p role : ℕ) → names_role above w (128 + p) role ≡ is_of above w p role
+unfolding names_role
+named-role above w p role = rw (le-ltb (128 + p) 128 (omega arith), add-sub_cancel_left 128 p) refl
+
 -- the test of one item, against the event from i on
 role_met : (above event : List ℕ) (i : ℕ) (w : Bool) (p byte : ℕ) → byte ≡ 128 + p → role_at above w byte event i ≡ cond (ltb i (length event)) (is_of above w p (get_or event i 0)) false
 unfolding role_at
-role_met above event i w p byte e = rw (e, le-ltb (128 + p) 128 (omega arith), add-sub_cancel_left 128 p) (go (ltb i (length event)) refl)
+role_met above event i w p byte e = rw (e, named-role above w p (get_or event i 0)) (go (ltb i (length event)) refl)
   where
     go : (t : Bool) → ltb i (length event) ≡ t → cond (leb (length event) i) false (is_of above w p (get_or event i 0)) ≡ cond (ltb i (length event)) (is_of above w p (get_or event i 0)) false
     go true q = rw (q, lt-leb (length event) i (ltb-true i (length event) q))
@@ -73,12 +78,11 @@ cond_none false x e = refl
 -- the event has a role where an item is met
 role_inside : (above event : List ℕ) (i : ℕ) (w : Bool) (byte : ℕ) → role_at above w byte event i ≡ true → i < length event
 unfolding role_at
-role_inside above event i w byte e = go (ltb byte 128) (ltb i (length event)) refl e
+role_inside above event i w byte e = go (ltb i (length event)) refl e
   where
-    go : (a t : Bool) → ltb i (length event) ≡ t → cond a false (cond (leb (length event) i) false (is_of above w (byte - 128) (get_or event i 0))) ≡ true → i < length event
-    go true t q f = absurd (false≢true f)
-    go false true q f = ltb-true i (length event) q
-    go false false q f = absurd (false≢true (rw (le-leb (length event) i (ltb-false i (length event) q)) at f))
+    go : (t : Bool) → ltb i (length event) ≡ t → cond (leb (length event) i) false (names_role above w byte (get_or event i 0)) ≡ true → i < length event
+    go true q f = ltb-true i (length event) q
+    go false q f = absurd (false≢true (rw (le-leb (length event) i (ltb-false i (length event) q)) at f))
 
 module _ (above event : List ℕ) (i : ℕ) (code : List ℕ) (at : ℕ) where
   -- an item that is a name, and one with a plus before it

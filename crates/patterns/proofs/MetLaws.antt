@@ -1,14 +1,14 @@
 -- What each way through `items_meet` and `meets` shows.
 -- Assumes nothing.
-use Rattle.std.proofs.Common.{◌≡◌, refl, sym, ap, ◌∙◌, Bool, true, false, ◌&&◌, List, [], ◌∷◌, ◌++◌, ℕ, ◌+◌, ◌-◌, ◌<◌, arith, eqb, length, get_or, drop, take_all, length-drop, le-ltb, ne_eqb}
-use Rattle.std.proofs.Math.Nat.{add-sub_cancel_left}
+use Rattle.std.proofs.Common.{◌≡◌, refl, sym, ap, ◌∙◌, Bool, true, false, ◌&&◌, List, [], ◌∷◌, ◌++◌, ℕ, ◌+◌, ◌-◌, ◌<◌, arith, eqb, length, get_or, drop, take_all, length-drop, ne_eqb}
 use Rattle.std.specs.List.{slice_range}
 use Rattle.grammar.specs.Trees.{Item, exact, below, Items, close, star_close, item, any_event, items, Pattern, plain, bracketed}
 use Rattle.code.specs.Trees.{code_items, code_simple, code_pattern}
 use Rattle.patterns.specs.Meets.{item_meets, items_meet, meets}
-use Rattle.patterns.specs.Judged.{order_by, is_of, PatternRead}
-use Rattle.patterns.specs.Met.{names_role, ItemsMet, PatternMet}
+use Rattle.patterns.specs.Judged.{order_by, names_role, PatternRead}
+use Rattle.patterns.specs.Met.{ItemsMet, PatternMet}
 use Rattle.patterns.specs.declared.judge.Judged.{Judged}
+use Rattle.patterns.proofs.ItemLaws.{named-role}
 
 -- the first byte of a list, 0 where it has none, and the second
 abbrev first : List ℕ → ℕ
@@ -20,11 +20,6 @@ second l = get_or l 1 0
 -- a part up to the end of a list
 rest-of : (n : ℕ) (l : List ℕ) → slice_range l n (length l) ≡ drop n l
 rest-of n l = take_all (length l - n) (drop n l) (omega (arith, length-drop n l))
-
--- the byte of a name stands for its role
-named-role : (above : List ℕ) (w : Bool) (p role : ℕ) → names_role above w (128 + p) role ≡ is_of above w p role
-unfolding names_role
-named-role above w p role = rw (le-ltb (128 + p) 128 (omega arith), add-sub_cancel_left 128 p) refl
 
 module _ (above : List ℕ) where
   -- an item needs a role

@@ -17,9 +17,13 @@ abbrev pub is_of : List ℕ → Bool → ℕ → ℕ → Bool
 is_of above true p r = below_by above r p
 is_of above false p r = eqb r p
 
--- the role at i of the event is the one that a byte of code names, or below it
+-- a role is the one that a byte of code names or, where under is true, below it
+unfoldable pub names_role : List ℕ → Bool → ℕ → ℕ → Bool
+names_role above under byte role = cond (ltb byte 128) false (is_of above under (byte - 128) role)
+
+-- the event has a role at i, and that is the one that a byte of code names, or below it
 unfoldable pub role_at : List ℕ → Bool → ℕ → List ℕ → ℕ → Bool
-role_at above under byte event i = cond (ltb byte 128) false (cond (leb (length event) i) false (is_of above under (byte - 128) (get_or event i 0)))
+role_at above under byte event i = cond (leb (length event) i) false (names_role above under byte (get_or event i 0))
 
 -- the place after an item, where the role at i of the event meets it: a name, or `+` with a name after it
 unfoldable pub met_item : List ℕ → List ℕ → ℕ → List ℕ → ℕ → ℕ → Option ℕ

@@ -1,14 +1,10 @@
 -- What `meets` promises, by trees: where the code spells a pattern, whether the event meets it. Where the pattern ends is not told.
 -- Assumes nothing.
-use Rattle.std.specs.Prelude.{◌≡◌, Bool, false, cond, List, ◌++◌, ℕ, ◌-◌, ltb, drop}
+use Rattle.std.specs.Prelude.{◌≡◌, Bool, List, ◌++◌, ℕ, drop}
 use Rattle.grammar.specs.Trees.{Items, Pattern}
 use Rattle.code.specs.Trees.{code_items, code_pattern}
 use Rattle.patterns.specs.Meets.{items_meet, meets}
-use Rattle.patterns.specs.Judged.{order_by, is_of}
-
--- a role is the one that a byte of code names or, where under is true, below it
-unfoldable pub names_role : List ℕ → Bool → ℕ → ℕ → Bool
-names_role above under byte role = cond (ltb byte 128) false (is_of above under (byte - 128) role)
+use Rattle.patterns.specs.Judged.{order_by}
 
 -- items, against some roles
 pub record ItemsMet (above roles code : List ℕ) (r : Bool) : Type 0 where

@@ -1,23 +1,34 @@
 // The items of a simple pattern, judged in turn until one is not met.
 ghost use Rattle.std.specs.Prelude.{◌≡◌, ◌<◌, length};
-ghost use Rattle.patterns.specs.Judged.{role_at, met_item, ItemsEnd, ItemsRead};
+ghost use Rattle.patterns.specs.Judged.{names_role, role_at, met_item, ItemsEnd, ItemsRead};
 
 use crate::judge::{Judged, Matcher};
 use crate::roles::below;
 
 impl Matcher<'_> {
-    // Whether the role at i of the event is the one that a byte of code names or, under, one below it.
-    #[tactic(auto, unfolding(crate::specs::Judged::role_at))]
-    fn role_at(&self, under: bool, byte: u8, i: usize) -> bool
-        ensures { result ≡ role_at self.now.above.now under byte self.now.event.now i }
+    // Whether a role is the one that a byte of code names or, under, one below it.
+    #[tactic(auto, unfolding(crate::specs::Judged::names_role))]
+    pub(crate) fn names_role(&self, under: bool, byte: u8, role: u8) -> bool
+        ensures { result ≡ names_role self.now.above.now under byte role }
     {
-        let (Some(named), Some(&role)) = (byte.checked_sub(128), self.event.get(i)) else {
+        let Some(named) = byte.checked_sub(128) else {
             return false;
         };
         if under {
             below(self.above, role, named)
         } else {
             role == named
+        }
+    }
+
+    // Whether the event has a role at i, and that is the one that a byte of code names or, under, one below it.
+    #[tactic(auto, unfolding(crate::specs::Judged::role_at))]
+    fn role_at(&self, under: bool, byte: u8, i: usize) -> bool
+        ensures { result ≡ role_at self.now.above.now under byte self.now.event.now i }
+    {
+        match self.event.get(i) {
+            Some(&role) => self.names_role(under, byte, role),
+            None => false,
         }
     }
 

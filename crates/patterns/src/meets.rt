@@ -1,26 +1,9 @@
 // Whether an event meets a pattern, where no one asks for the pattern's end: nothing is read past what decides.
-ghost use Rattle.std.specs.Prelude.{◌≡◌};
-ghost use Rattle.patterns.specs.Met.{names_role, ItemsMet, PatternMet};
+ghost use Rattle.patterns.specs.Met.{ItemsMet, PatternMet};
 
 use crate::judge::Matcher;
-use crate::roles::below;
 
 impl Matcher<'_> {
-    // Whether a role is the one that a byte of code names or, under, one below it.
-    #[tactic(auto, unfolding(crate::specs::Met::names_role))]
-    fn names_role(&self, under: bool, byte: u8, role: u8) -> bool
-        ensures { result ≡ names_role self.now.above.now under byte role }
-    {
-        let Some(named) = byte.checked_sub(128) else {
-            return false;
-        };
-        if under {
-            below(self.above, role, named)
-        } else {
-            role == named
-        }
-    }
-
     // Whether the items that some code begins with, after their `<`, are met by some roles. What falls is the code.
     #[tactic(auto, using(crate::proofs::MetLaws::items_laws))]
     fn items_meet(&self, code: &[u8], roles: &[u8]) -> bool
