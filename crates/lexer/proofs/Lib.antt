@@ -1,4 +1,5 @@
 pub mod ClassedLaws
+pub mod FoldLaws
 pub mod RunLaws
 pub mod SameLaws
 pub mod TokenLaws
