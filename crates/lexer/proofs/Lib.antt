@@ -2,10 +2,10 @@ pub mod ClassedLaws
 pub mod FoldLaws
 pub mod RunLaws
 pub mod SameLaws
+pub mod SpaceLaws
 pub mod TokenLaws
 pub mod NextLaws
 pub mod KindLaws
 pub mod KindNumbers
 pub mod WordLaws
 pub mod RenderLaws
-pub mod ReservedLaws

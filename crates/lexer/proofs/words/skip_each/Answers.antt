@@ -4,7 +4,7 @@ use Rattle.std.proofs.lemmas.Iterator.Consumers.{count_from_yields_List}
 use Rattle.std.proofs.lemmas.Iterator.Search.{YieldsList-from_take_while}
 use Rattle.lexer.specs.Class.{spacey}
 use Rattle.lexer.proofs.RunLaws.{counted, after_part}
-use Rattle.lexer.proofs.words.skip.Goals as goal
+use Rattle.lexer.proofs.words.skip_each.Goals as goal
 
 -- the spaces that the text begins with are counted
 pub returns : goal.returns
