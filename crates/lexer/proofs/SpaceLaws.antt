@@ -1,22 +1,34 @@
--- Spaces in front of a text are passed, many at a time.
+-- Spaces in front of a text are passed, many at a time; where none is in front, all of it is left.
 -- Assumes nothing.
-use Rattle.std.proofs.Common.{◌≡◌, refl, ap, sym, ◌∙◌, true, List, ◌++◌, ℕ, zero, suc, eqb, take, drop, replicate}
+use Rattle.std.proofs.Common.{◌≡◌, refl, ap, sym, ◌∙◌, Bool, true, false, cond, ◌&&◌, List, [], ◌∷◌, ◌++◌, ℕ, arith, length, take, drop, ne_eqb}
 use Rattle.std.proofs.lemmas.List.{take-append-drop}
-use Rattle.std.specs.Cmp.Lexicographic.{pointwise}
+use Rattle.std.specs.List.{list_all}
 use Rattle.lexer.specs.Class.{class_of, spacey}
 use Rattle.lexer.specs.Run.{after}
-use Rattle.lexer.proofs.KindLaws.{same_true}
-use Rattle.lexer.proofs.SameLaws.{pointwise_same}
+use Rattle.lexer.proofs.RunLaws.{no_length}
 
 -- any number of spaces
-after_spaces : (n : ℕ) (t : List ℕ) → after spacey (replicate n 32 ++ t) ≡ after spacey t
-unfolding after spacey class_of
-after_spaces zero t = refl
-after_spaces (suc n) t = after_spaces n t
+after_spaces : (front rest : List ℕ) → list_all spacey front ≡ true → after spacey (front ++ rest) ≡ after spacey rest
+unfolding after
+after_spaces [] rest e = refl
+after_spaces (b ∷ front) rest e = go (spacey b) e (after_spaces front rest)
+  where
+    go : (q : Bool) → q && list_all spacey front ≡ true → (list_all spacey front ≡ true → after spacey (front ++ rest) ≡ after spacey rest)
+        → cond q (after spacey (front ++ rest)) (b ∷ (front ++ rest)) ≡ after spacey rest
+    go true e ih = ih e
+    go false e ih = let z : ◌≡◌ {A = ℕ} 0 1 = cc in absurd (omega arith)
 
 -- the first n bytes are as many spaces
-pub spaces_passed : (n : ℕ) (t front rest : List ℕ) → front ≡ take n t → rest ≡ drop n t → pointwise eqb front (replicate n 32) ≡ true → after spacey rest ≡ after spacey t
+pub spaces_passed : (n : ℕ) (t front rest : List ℕ) → front ≡ take n t → rest ≡ drop n t → list_all spacey front ≡ true → after spacey rest ≡ after spacey t
 spaces_passed n t front rest f r e =
-    let spaces : front ≡ replicate n 32 = same_true front (replicate n 32) (sym (pointwise_same front (replicate n 32)) ∙ e) in
-    let whole : replicate n 32 ++ rest ≡ t = ap (λ (u : List ℕ). u ++ rest) (sym spaces ∙ f) ∙ ap (λ (u : List ℕ). take n t ++ u) r ∙ take-append-drop n t in
-    sym (after_spaces n rest) ∙ ap (after spacey) whole
+    let whole : front ++ rest ≡ t = ap (λ (u : List ℕ). u ++ rest) f ∙ ap (λ (u : List ℕ). take n t ++ u) r ∙ take-append-drop n t in
+    sym (after_spaces front rest e) ∙ ap (after spacey) whole
+
+-- a text of no bytes, and one that begins with another byte
+pub nothing_passed : (s : List ℕ) → length s ≡ 0 → s ≡ after spacey s
+unfolding after
+nothing_passed s e = rw (no_length s e) refl
+
+pub none_passed : (s : List ℕ) (b : ℕ) (u : List ℕ) → s ≡ b ∷ u → (class_of b ≡ 1 → ⊥) → s ≡ after spacey s
+unfolding after spacey
+none_passed s b u e z = rw (e, ne_eqb (class_of b) 1 z) refl

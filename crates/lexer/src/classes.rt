@@ -1,6 +1,6 @@
 // The class of a byte, by ranges and the few marks. Document 01, "A record"; document 02, C-14.
 ghost use Rattle.std.specs.Prelude.{◌≡◌, not, eqb};
-ghost use Rattle.lexer.specs.Class.{class_of, within, among, marks};
+ghost use Rattle.lexer.specs.Class.{class_of, within, among, marks, wordy};
 
 // Whether a byte is one of `: ; ( ) [ ] < > + * #`.
 fn is_mark(b: u8) -> bool
@@ -45,9 +45,10 @@ pub fn has_class(b: u8) -> bool
     matches!(b, b' '..=b'~')
 }
 
-// Whether the bytes of a class stand in words: 2, 3 and 4.
-pub fn in_words(class: u8) -> bool
-    ensures { result ≡ within 2 4 class }
+// Whether a byte stands in words, which are the bytes of classes 2, 3 and 4. Its own tests, as every byte of a word is asked this, and letters come first.
+#[tactic(auto, unfolding(crate::specs::Class::wordy, crate::specs::Class::class_of))]
+pub fn is_wordy(b: u8) -> bool
+    ensures { result ≡ wordy b }
 {
-    matches!(class, 2..=4)
+    matches!(b, b'a'..=b'z') || matches!(b, b'0'..=b'9' | b'-')
 }

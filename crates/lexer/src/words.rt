@@ -1,11 +1,12 @@
 // Words as parts of the text, and their kinds.
 ghost use Rattle.std.specs.Prelude.{◌≡◌};
+ghost use Rattle.std.specs.List.{list_all};
 ghost use Rattle.lexer.specs.Class.{wordy, spacey};
 ghost use Rattle.lexer.specs.Run.{run, after};
 ghost use Rattle.lexer.specs.Words.{kind_of, name_like, digit_kind, kind_number};
 ghost use Rattle.lexer.specs.Tokens.{first_word};
 
-use crate::classes::{class_of, in_words};
+use crate::classes::{class_of, is_wordy};
 use common::sizes::NAME_SIZE;
 
 // The kinds of words: a name; each reserved word; the word of one digit; any other word.
@@ -30,8 +31,17 @@ pub enum WordKind {
 pub fn word(s: &[u8]) -> &[u8]
     ensures { result.now ≡ run wordy s.now }
 {
-    let n = s.iter().take_while(|b| in_words(class_of(**b))).count();
+    let n = s.iter().take_while(|b| is_wordy(**b)).count();
     &s[..n]
+}
+
+// Whether all bytes are spaces. Kept: a fold, as in `all_classed`.
+fn blank(bytes: &[u8]) -> bool
+    ensures { result ≡ list_all spacey bytes.now }
+{
+    bytes
+        .iter()
+        .fold(true, |blank, b| blank & (class_of(*b) == 1))
 }
 
 // What is left of a text after sixteen spaces at a time, as many times as it begins with so many.
@@ -40,7 +50,7 @@ fn skip_sixteens(s: &[u8]) -> &[u8]
 {
     let mut left = s;
     while let Some((front, rest)) = left.split_first_chunk::<16>() {
-        if *front != [b' '; 16] {
+        if !blank(front) {
             break;
         }
         left = rest;
@@ -56,14 +66,30 @@ fn skip_each(s: &[u8]) -> &[u8]
     &s[n..]
 }
 
-// What is left of a text after the spaces that it begins with. Between words stand few; the many are those that a record is filled up with.
-pub fn skip(s: &[u8]) -> &[u8]
+// What is left of a text after its spaces. Between words stands mostly one; the many are those that a record is filled up with.
+// Kept: not inlined, so that `skip` is small.
+#[inline(never)]
+fn skip_all(s: &[u8]) -> &[u8]
     ensures { result.now ≡ after spacey s.now }
 {
     match s {
         [b' ', b' ', ..] => skip_each(skip_sixteens(s)),
         _ => skip_each(s),
     }
+}
+
+// What is left of a text after the spaces that it begins with. Most begin with none, and that is told by the first byte, with no call.
+#[inline(always)]
+pub fn skip(s: &[u8]) -> &[u8]
+    ensures { result.now ≡ after spacey s.now }
+{
+    let Some((first, _)) = s.split_first() else {
+        return s;
+    };
+    if class_of(*first) == 1 {
+        return skip_all(s);
+    }
+    s
 }
 
 // The word that a text begins with after the spaces in front, as a part of it.

@@ -8,7 +8,6 @@ use Rattle.lexer.proofs.words.word.Goals as goal
 
 -- the bytes of words that the text begins with are counted
 pub returns : goal.returns
-unfolding wordy
 returns c =
     let s = c.args.s.now in
     let n = counted wordy s _ (count_from_yields_List c.take_while.result _ c.count-n.ensures.ran (YieldsList-from_take_while _ wordy (YieldsList-from_slice s cc) c.take_while.ensures.closure c.take_while.ensures.done (λ x b q k. search (rules, tests)))) in
