@@ -1,78 +1,61 @@
 //! One call.
 
 use super::chain::End;
-use super::event::{self, Event};
-use super::patterns::Matcher;
-use super::reply::{self, Reply, DASH};
-use super::state::{Monitor, CODE};
-use super::text::Text;
-use super::walk::Walk;
-
-/// The kind of a record, and its text. The newline, which is looked at too, is the one byte of a record that is not among those from 32 to 126.
-pub fn framed(record: &[u8]) -> Result<(u8, &Text), u8> {
-    let record: &[u8; 128] = record.try_into().map_err(|_| 2)?;
-    let odd = |byte: &u8| u8::from(!matches!(byte, b' '..=b'~'));
-    let [kind @ (b'L' | b'E'), text @ .., b'\n'] = record else {
-        return Err(3);
-    };
-    if record.iter().map(odd).sum::<u8>() != 1 {
-        return Err(3);
-    }
-    Ok((*kind, text))
-}
+use super::event::{event_line, Event};
+use super::frame::{framed, Framed};
+use super::reply::{dash, reply, Reply};
+use super::state::Monitor;
 
 impl Monitor {
     /// The refusal's number, or 0.
-    pub fn call(&mut self, record: &[u8], buffer: &mut [u8]) -> u8 {
-        let Ok(buffer) = <&mut Reply>::try_from(buffer) else {
+    pub fn call(&mut self, bytes: &[u8], out: &mut [u8]) -> u8 {
+        let Ok(out) = <&mut Reply>::try_from(out) else {
             return 1;
         };
-        match self.answer(record, buffer) {
+        match self.answer(bytes, out) {
             Ok(()) => 0,
             Err(number) => {
-                reply::plain(buffer, b'R', number, DASH);
+                reply(out, b'R', number, dash(), &[]);
                 number
             }
         }
     }
 
-    fn answer(&mut self, record: &[u8], buffer: &mut Reply) -> Result<(), u8> {
-        let (kind, text) = framed(record)?;
-        if kind == b'E' {
-            let event = event::read(text, &self.sheet)?;
-            self.event(event, buffer);
-        } else {
-            let name = self.declare(text)?;
-            reply::plain(buffer, b'D', 0, name);
+    fn answer(&mut self, bytes: &[u8], out: &mut Reply) -> Result<(), u8> {
+        match framed(bytes)? {
+            Framed::Line(text) => {
+                let name = self.declare(text)?;
+                reply(out, b'D', 0, name, &[]);
+            }
+            Framed::Event(text) => {
+                let event = event_line(text, self.sheet.role_names())?;
+                self.event(event, out);
+            }
         }
         Ok(())
     }
 
-    fn event(&mut self, event: Event, buffer: &mut Reply) {
-        let (worked, end) = self.work(event);
+    /// An event is worked, and answered; and where it is committed, the positions move on.
+    fn event(&mut self, event: Event, out: &mut Reply) {
+        let (work, end) = self.work(event);
         let (kind, rule) = match end {
-            End::Committed(event) => {
-                reply::committed(buffer, worked, &event, &self.sheet);
-                return self.commit(&event);
+            End::Committed => {
+                self.committed(&work.event, work.worked, out);
+                return self.commit(&work.event);
             }
             End::Held(rule) => (b'H', rule),
             End::Unfit(rule) => (b'U', rule),
             End::TooLong(rule) => (b'T', rule),
         };
-        reply::plain(buffer, kind, worked, self.sheet.rule_names[rule]);
+        reply(out, kind, work.worked, self.sheet.rule_names[rule], &[]);
     }
 
-    /// Every rule's positions move on; where none is held, none will be.
-    fn commit(&mut self, event: &Event) {
-        let roles = self.sheet.roles(event);
-        let roles = &roles[..event.len];
-        let rules = self.positions.iter_mut().zip(&self.sheet.rows);
-        for (positions, row) in rules.take(self.sheet.rule_count) {
-            if *positions != 0 {
-                let matcher = Matcher { row, roles };
-                let held = *positions;
-                *positions = Walk { matcher, held }.moved(CODE);
-            }
+    fn committed(&self, event: &Event, worked: u8, out: &mut Reply) {
+        let ids = event.ids();
+        let mut names = [0; 4];
+        for (name, &id) in names.iter_mut().zip(ids) {
+            *name = self.sheet.names[usize::from(id) % 64];
         }
+        reply(out, b'C', worked, dash(), &names[..ids.len()]);
     }
 }

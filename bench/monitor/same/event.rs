@@ -1,24 +1,24 @@
 //! An event's text, read in one pass.
 
-use super::state::Sheet;
-use super::text::{before_space, eight, spaces, used, Text, TEXT};
-use super::tokens::{Token, Tokens};
+use super::ids::{id_of, UNHELD};
+use super::tokens::{next, Token};
+use super::words::WordKind;
 
-pub const MOST: usize = 4;
-
-/// The first `len` ids count.
+/// The ids of an event's roles, of which the first `len` count.
 #[derive(Clone, Copy)]
 pub struct Event {
-    pub len: usize,
-    pub ids: [u8; MOST],
+    len: usize,
+    ids: [u8; 4],
 }
 
 impl Event {
-    pub fn empty() -> Event {
-        Event {
-            len: 0,
-            ids: [0; MOST],
-        }
+    pub const EMPTY: Event = Event {
+        len: 0,
+        ids: [0; 4],
+    };
+
+    pub fn ids(&self) -> &[u8] {
+        &self.ids[..self.len]
     }
 
     /// One more role, where there is room.
@@ -27,45 +27,31 @@ impl Event {
         self.len += 1;
         Some(())
     }
-
-    pub fn ids(&self) -> &[u8] {
-        &self.ids[..self.len.min(MOST)]
-    }
 }
 
-/// The event that a text says, or the refusal. What stands between spaces and is a name held needs no further look: every name held is a name.
-pub fn read(text: &Text, sheet: &Sheet) -> Result<Event, u8> {
-    let mut event = Event::empty();
-    let used = used(text);
-    let mut at = 0;
-    while at < used {
-        let bytes = eight(text, at);
-        let blank = spaces(bytes);
-        if blank > 0 {
-            at += blank;
-            continue;
-        }
-        let (length, name) = before_space(bytes);
-        at += length;
-        let ended = at >= TEXT || text[at] == b' ';
-        let id = sheet.find(name).filter(|_| ended);
-        if id.and_then(|id| event.push(id)).is_none() {
-            return Err(why(text));
-        }
+/// The event, and whether a name in it is not held; None where the text is not in the language. A name that is not held does not end the pass, as what
+/// follows may not be in the language, and that is told first.
+fn read(text: &[u8], names: &[u64]) -> Option<(Event, bool)> {
+    let mut event = Event::EMPTY;
+    let mut unknown = false;
+    let mut left = text;
+    while let Some((token, after)) = next(left) {
+        let Token::Word(WordKind::Name, word) = token else {
+            return None;
+        };
+        let id = id_of(word, names);
+        event.push(id)?;
+        unknown |= id == UNHELD;
+        left = after;
     }
-    Ok(event)
+    Some((event, unknown))
 }
 
-/// Why a text is no event whose roles are all held: it is not in the language, which is told first, or a role is not held.
-#[cold]
-fn why(text: &Text) -> u8 {
-    let mut names = 0;
-    let mut tokens = Tokens::new(text);
-    loop {
-        match tokens.next() {
-            Token::End => return 6,
-            Token::Word(word) if word.is_name() && names < MOST => names += 1,
-            _ => return 4,
-        }
+/// The event that a text says, or refusal 4 or 6.
+pub fn event_line(text: &[u8], names: &[u64]) -> Result<Event, u8> {
+    match read(text, names) {
+        Some((event, false)) => Ok(event),
+        Some((_, true)) => Err(6),
+        None => Err(4),
     }
 }

@@ -1,8 +1,9 @@
 //! Images: a rule's code is written out again as text.
 
-use super::calls::framed;
+use super::count::patterns;
+use super::frame::{framed, Framed};
+use super::names::length;
 use super::state::{Monitor, Row, Sheet, CODE};
-use super::text::length;
 use crate::image::{mark_record, read, role_record, write, Imaged, Record, Writer};
 
 impl Monitor {
@@ -22,7 +23,7 @@ impl Monitor {
     }
 
     fn mark(&self, i: usize) -> Record {
-        mark_record(self.sheet.rule_names[i].to_le_bytes(), self.positions[i])
+        mark_record(self.sheet.rule_names[i].to_be_bytes(), self.positions[i])
     }
 }
 
@@ -32,7 +33,9 @@ impl Imaged for Monitor {
     }
 
     fn take(&mut self, line: &Record) -> Option<()> {
-        let (_, text) = framed(line).ok()?;
+        let Ok(Framed::Line(text)) = framed(line) else {
+            return None;
+        };
         self.declare(text).ok()?;
         Some(())
     }
@@ -46,7 +49,7 @@ impl Imaged for Monitor {
     }
 
     fn rule(&self, i: usize) -> ([u8; 8], usize) {
-        let name = self.sheet.rule_names[i].to_le_bytes();
+        let name = self.sheet.rule_names[i].to_be_bytes();
         (name, patterns(code_of(&self.sheet.rows[i])))
     }
 
@@ -58,9 +61,8 @@ impl Imaged for Monitor {
 impl Sheet {
     fn role(&self, id: usize) -> Record {
         let parent = usize::from(self.parents[id]);
-        let [name, parent] = [id, parent].map(|id| self.names[id]);
-        let bytes = [name.to_le_bytes(), parent.to_le_bytes()];
-        role_record(&bytes[0][..length(name)], &bytes[1][..length(parent)])
+        let [name, parent] = [id, parent].map(|id| self.names[id].to_be_bytes());
+        role_record(&name[..length(&name)], &parent[..length(&parent)])
     }
 
     fn rule(&self, i: usize) -> Record {
@@ -84,7 +86,8 @@ impl Sheet {
 }
 
 fn add_name(out: &mut Writer, name: u64) {
-    out.add(&name.to_le_bytes()[..length(name)]);
+    let columns = name.to_be_bytes();
+    out.add(&columns[..length(&columns)]);
 }
 
 fn code_of(row: &Row) -> &[u8] {
@@ -103,15 +106,4 @@ fn token(byte: &u8) -> &[u8] {
         b'w' => b"anew",
         mark => std::slice::from_ref(mark),
     }
-}
-
-/// How many patterns the past of a rule's code has.
-fn patterns(code: &[u8]) -> usize {
-    let mut inside = false;
-    let mut count = 0;
-    for &byte in code.iter().take_while(|&&byte| byte != b';') {
-        count += usize::from(!inside && matches!(byte, b'a' | b'<' | b'['));
-        inside = if inside { byte != b']' } else { byte == b'[' };
-    }
-    count
 }

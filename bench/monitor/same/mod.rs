@@ -1,21 +1,45 @@
-//! A monitor in plain Rust of the same algorithm and size as the proved one: what it costs beside this one is the price of its proof.
+//! A monitor in plain Rust that does what the proved one does (`crates/*/src`), function by function: what the proved one costs beside it is what its proof
+//! has cost.
 //!
-//! It keeps what the proved one keeps: packed names, parents, of each role the roles above it as a set, of each rule a row of code, the positions at which
-//! its past may end and those that it holds. A past is walked over its code for each event; nothing is worked out beforehand, and nothing is on the heap.
+//! The same is what is kept, in as many bytes: packed names, parents, of each role those above it as a set, of each rule a row of code with the places of its
+//! trigger and its response, the positions at which its past may end and those that it holds. Nothing else is worked out beforehand, and nothing is on the heap.
+//! The same are the steps and their order: the frame; tokens, read afresh by each reader, and the kinds of words; an event read in one pass; a line recognized
+//! first, and then read to ids and code, its patterns counted; the refusals; items until one is not met, conditions by their nesting, the walk over a past's
+//! code for each event and what is put together of its parts; the chain, response by response; the columns of a reply; the records of an image, and its lines
+//! taken like any others.
+//!
+//! The form differs where Rust without contracts would be written otherwise:
+//! - Records, replies and rows are arrays, so that no length is asked again. Places in a row are counted from its first byte, and a byte beyond it reads as 0.
+//! - Classes of bytes are asked one by one, with no number between. Refusals and kinds of replies are their numbers and letters.
+//! - Lists are loops also in the recognizers, in conditions, in a trigger's items and in templates; items go over the event's roles by an iterator.
+//! - What no call leads to is not there: a pattern as a walk of its own, bounds for ids and for pattern numbers above those that a line has room for.
+//! - A rule's row is made once no refusal is left. What a step of the chain changes is changed in place. A reply's name is written with its padding.
+//! - The digits of an image's marks are read by the standard library (`../image.rs`, which the monitor with tables uses too).
 
-mod body;
 mod calls;
 mod chain;
-mod code;
+mod classes;
+mod count;
 mod declare;
+mod encode;
 mod event;
+mod frame;
+mod grammar;
+mod ids;
 mod image;
-mod patterns;
+mod items;
+mod lines;
+mod matcher;
+mod meets;
+mod names;
 mod reply;
+mod responses;
+mod rules;
 mod state;
-mod text;
+mod summary;
 mod tokens;
 mod walk;
+mod words;
 
 pub use state::Monitor;
 
