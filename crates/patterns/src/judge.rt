@@ -46,7 +46,7 @@ impl Judged {
 }
 
 // What a pattern is judged by: the code that spells it, the event, and of each role the set of those above it. The slices may have any lengths and hold anything.
-// Kept: places in the code are numbers, since `follow` keeps one in a rule's row, and `chain` goes on from another, where the trigger ends.
+// Kept: places in the code are numbers, since `follow` keeps two of them in a rule's row.
 #[derive(Clone, Copy)]
 pub struct Matcher<'a> {
     pub code: &'a [u8],
