@@ -112,6 +112,7 @@ pub fn all() {
     acts("heavy, an act", "heavy", 200, 1_000);
     acts("long, an act", "long", 200, 1_000);
     acts("worst, an act", "worst", 0, 2);
+    acts("nested, an act", "nested", 0, 2);
     batch("light, an act of a batch", "light", 20);
     acts("light, after 1,000 acts", "light", 1_000, 2_000);
     acts("light, after 10,000 acts", "light", 10_000, 10_000);

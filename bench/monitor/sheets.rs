@@ -66,10 +66,11 @@ pub fn offer(name: &str) -> Offer {
         "sent" => (light(), &["uv"], "C 01"),
         "heavy" => (heavy(), &HEAVY_ACTS, "C 00"),
         "long" => (long(), &LONG_ACTS, "C 00"),
-        "worst" => (worst(), &["top"], "T 64"),
+        "worst" => (worst(), &["c61 c61 c61 c61"], "T 64"),
+        "nested" => (nests(), &["top"], "T 64"),
         // for its image, not for its acts
         "full" => (full(), &HEAVY_ACTS, ""),
-        _ => panic!("no sheet {name}: bare, light, held, sent, heavy, long, worst, full"),
+        _ => panic!("no sheet {name}: bare, light, held, sent, heavy, long, worst, nested, full"),
     };
     Offer { sheet, acts, reply }
 }
@@ -138,10 +139,24 @@ fn nested(i: usize, pattern: &str, response: &str) -> String {
     format!("L{front}[{open}{pattern}{close}];{response}")
 }
 
-/// The costliest act known: 64 responses worked, each `anew`, so that each looks up a chain over 31 triggers that are not met, and then the one that is. It ends
-/// too long, T 64. A condition is judged by its nesting: a pair of brackets, two bytes of a line, costs two calls, one in the other. Lines full of patterns
-/// joined by `or`, of items met but the last, or of `not` cost less.
+/// 64 responses worked, each `anew`, so that each looks up a chain over 31 triggers that are not met, of 32 items each, and then the one that is. Each item asks
+/// whether a role is below one that stands 61 steps above it. It ends too long, T 64.
 fn worst() -> Sheet {
+    let mut lines = vec![role("z", "top"), role("c0", "top")];
+    for k in 1..62 {
+        lines.push(role(&format!("c{k}"), &format!("c{}", k - 1)));
+    }
+    lines.push("Lrule r0:any*;any;anew <c61 c61 c61 c61>".to_string());
+    for i in 1..32 {
+        let terms = vec!["<+z+z+z+z>"; 8].join("or");
+        lines.push(format!("Lrule r{i}:any*;[{terms}];hold"));
+    }
+    lines
+}
+
+/// The costliest act known: the same with triggers of one pattern in brackets. A condition is judged by its nesting: a pair of brackets, two bytes of a line, costs
+/// two calls, one in the other. Lines full of patterns joined by `or`, of items met but the last, or of `not` cost less.
+fn nests() -> Sheet {
     let mut lines = vec![nested(0, "any", "anew<#1>")];
     lines.extend((1..32).map(|i| nested(i, "<>", "hold")));
     lines
