@@ -126,8 +126,9 @@ impl Step<'_> {
         }
     }
 
-    // A sequence: factors side by side, at least one. What is found before the first is what is found of `()`. `past` calls it twice; its loop stands once.
-    #[inline(never)]
+    // A sequence: factors side by side, at least one. What is found before the first is what is found of `()`. It is made part of `past`, where most pasts are
+    // one sequence.
+    #[inline(always)]
     #[cycle(base_factor_further_past_sequence)]
     fn sequence(&self, at: usize, k: usize) -> Walk
         ensures { SequenceRead self.now.positions self.now.matcher.above.now self.now.matcher.event.now self.now.matcher.code.now at k result }
