@@ -14,9 +14,9 @@ pub struct Matcher<'a> {
 pub type Judged = (usize, bool);
 
 impl Matcher<'_> {
-    /// The byte at a place of the row; 0, which stands for no token, beyond it.
+    /// The byte at a place of the row. No code that is kept ends before its response does, so that no place is beyond it.
     pub fn byte(&self, at: usize) -> u8 {
-        self.row.get(at).copied().unwrap_or(0)
+        self.row[at % 128]
     }
 
     /// A condition by its nesting: a whole one, or one term of it.

@@ -9,7 +9,8 @@
 //! taken like any others.
 //!
 //! The form differs where Rust without contracts would be written otherwise:
-//! - Records, replies and rows are arrays, so that no length is asked again. Places in a row are counted from its first byte, and a byte beyond it reads as 0.
+//! - Records, replies and rows are arrays, so that no length is asked again. Places in a row are counted from its first byte, and taken modulo its size where
+//!   the proved one asks whether they are beyond the code.
 //! - Classes of bytes are asked one by one, with no number between. Refusals and kinds of replies are their numbers and letters.
 //! - Lists are loops also in the recognizers, in conditions, in a trigger's items and in templates; items go over the event's roles by an iterator.
 //! - What no call leads to is not there: a pattern as a walk of its own, bounds for ids and for pattern numbers above those that a line has room for.
