@@ -84,15 +84,8 @@ pub fn read<M: Imaged>(image: &[u8]) -> Option<M> {
         return None;
     };
     let mut monitor = M::fresh();
-    let mut marks = 0;
-    for record in records {
-        if record[0] != b'L' {
-            break;
-        }
-        take_line(&mut monitor, record)?;
-        marks += 1;
-    }
-    let marks = &records[marks..];
+    let lines = take_lines(&mut monitor, records)?;
+    let marks = &records[lines..];
     if marks.len() != monitor.rules() {
         return None;
     }
@@ -101,6 +94,17 @@ pub fn read<M: Imaged>(image: &[u8]) -> Option<M> {
         monitor.mark(i, read_marks(record, name, patterns)?);
     }
     Some(monitor)
+}
+
+/// The lines in front, and how many they are.
+fn take_lines<M: Imaged>(monitor: &mut M, records: &[Record]) -> Option<usize> {
+    let lines = records.iter().take_while(|record| record[0] == b'L');
+    let mut count = 0;
+    for record in lines {
+        take_line(monitor, record)?;
+        count += 1;
+    }
+    Some(count)
 }
 
 /// A line in its place: a role line stands before every rule line.

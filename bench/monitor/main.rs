@@ -2,8 +2,8 @@
 //! tables that it works out when a rule is taken; the other does and keeps what the proved one does and keeps.
 //!
 //! The one argument is a directory of sessions (`NAME.rec`), on which the three are compared before anything is measured. With `run [MONITOR] SHEET COUNT` in
-//! its place one monitor (proved, tables, same) answers that many acts once, for a profiler; with `batch` or `image` after the count, that many batches of acts,
-//! or the image restored and kept that many times.
+//! its place one monitor (proved, tables, same) answers that many acts once, for a profiler; where the monitor is named, `batch` or
+//! `image` may stand after the count: that many batches of acts, or the image restored and kept that many times.
 
 mod cases;
 mod clock;

@@ -55,7 +55,7 @@ pub fn compare(name: &str, session: &Session, count: usize) -> Answers {
     });
     alike(&format!("{name}, with tables"), session, &ours, &tables);
     alike(
-        &format!("{name}, of the same size"),
+        &format!("{name}, of the same steps"),
         session,
         &ours,
         &theirs,

@@ -112,9 +112,9 @@ fn short_name(i: usize) -> String {
     format!("{}{}", ['r', 's', 't', 'u'][i / 10], i % 10)
 }
 
-/// 32 rules of 51 patterns, which their lines just have room for: 48 times `<>` in three runs, `any*` before each, at other places in each of the first 25 rules; the
-/// last seven are as the first. An act of no roles moves every position on; one with a role leaves those of `any*` alone, of which two stand beyond the first run. The trigger,
-/// `<z>`, is met by no act that is measured.
+/// 32 rules of 51 patterns, which their lines just have room for: 48 times `<>` in three runs, `any*` before each, at other places in each of the first 25
+/// rules; the last seven are as the first. An act of no roles moves every position on; one with a role leaves those of `any*` alone, of which two stand beyond
+/// the first run. The trigger, `<z>`, is met by no act that is measured.
 fn long() -> Sheet {
     let mut lines = vec![role("a", "top"), role("z", "top")];
     for i in 0..32 {
@@ -139,8 +139,9 @@ fn nested(i: usize, pattern: &str, response: &str) -> String {
     format!("L{front}[{open}{pattern}{close}];{response}")
 }
 
-/// 64 responses worked, each `anew`, so that each looks up a chain over 31 triggers that are not met, of 32 items each, and then the one that is. Each item asks
-/// whether a role is below one that stands 61 steps above it. It ends too long, T 64.
+/// 64 responses worked, each `anew`, so that each looks up a chain over 31 triggers that are not met, of 32 items each, and then the one that is. The
+/// first item of each four asks whether `c61`, 62 steps below top, is below `z`, which it is not; that decides, and the three after it are passed over. It ends
+/// too long, T 64.
 fn worst() -> Sheet {
     let mut lines = vec![role("z", "top"), role("c0", "top")];
     for k in 1..62 {

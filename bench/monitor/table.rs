@@ -1,4 +1,4 @@
-//! The table of results: the proved monitor, the one in Rust with tables and the one in Rust of the same size.
+//! The table of results: the proved monitor, the one in Rust with tables and the one in Rust of the same steps.
 
 use crate::measure::Cost;
 
@@ -16,11 +16,11 @@ fn grouped(n: usize) -> String {
 }
 
 /// A row: of each monitor a text, and the ratios of the proved one's number to the others'.
-fn line(name: &str, texts: [String; 3], [ours, tables, size]: [f64; 3], rates: [String; 3]) {
+fn line(name: &str, texts: [String; 3], [ours, tables, same]: [f64; 3], rates: [String; 3]) {
     let [a, b, c] = texts;
     let [p, q, r] = rates;
-    let (to_tables, to_size) = (ours / tables, ours / size);
-    println!("{name:<27}{a:>13}{b:>14}{c:>13}{to_tables:>9.2}{to_size:>9.2}{p:>13}{q:>13}{r:>13}");
+    let (to_tables, to_same) = (ours / tables, ours / same);
+    println!("{name:<27}{a:>13}{b:>14}{c:>13}{to_tables:>9.2}{to_same:>9.2}{p:>13}{q:>13}{r:>13}");
 }
 
 pub fn head() {

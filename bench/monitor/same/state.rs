@@ -39,7 +39,7 @@ impl Sheet {
 }
 
 impl Monitor {
-    /// Top, which is its own parent and above itself alone, and no rule.
+    /// Top, which is its own parent and has itself alone above it, and no rule.
     pub fn fresh() -> Monitor {
         let mut sheet = Sheet {
             role_count: 1,

@@ -13,7 +13,8 @@ use Rattle.follow.specs.Meaning.{past_meaning, sequence_meaning}
 use Rattle.follow.specs.Walked.{AfterPast, SequenceRead, PastRead}
 use Rattle.follow.specs.declared.walk.Walk.{Walk}
 
--- What further sequences to choose from make of what is found so far: nothing where none follows, else what is found of the past that they are, or it.
+-- What the sequences still to come make of what is found so far: where none follows, it stays as it is; else it is joined, as a choice, with what is found of
+-- the past that they spell.
 pub record Widened (m : ℕ) (above event code : List ℕ) (w r : Walk) : Type 0 where
   pub onwards : w.end ≤ r.end
   pub none : (rest : List ℕ) → AfterPast rest → drop w.end code ≡ rest → r ≡ w

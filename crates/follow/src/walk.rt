@@ -1,4 +1,5 @@
-// One pass over a past's code for one event. The levels call one another, and each loops over its like; what falls is the code left, and then the level.
+// One pass over a past's code for one event. A past loops over its sequences, and a sequence over its factors; the calls come back to `past` only at a round
+// bracket. What falls is the code left, and then the level.
 ghost use Rattle.std.specs.Prelude.{◌≡◌, get_or};
 ghost use Rattle.follow.specs.Walked.{stands_at, starts, StarsEnd, StarsRead, BaseRead, FactorRead, FurtherRead, SequenceRead, PastRead};
 
@@ -12,7 +13,7 @@ pub struct Walk {
     pub summary: Summary,
 }
 
-// What a pass reads: the past's code with the event and the parents of roles, and the positions held before the event.
+// What a pass reads: the past's code with the event and of each role the set of those above it, and the positions held before the event.
 // Kept: places in the code are numbers. Where the trigger stands, one after the past's end, is kept as a byte of the rule's row.
 #[derive(Clone, Copy)]
 pub struct Step<'a> {
@@ -62,6 +63,7 @@ fn stars(code: &[u8], walk: Walk) -> Walk
 
 impl Step<'_> {
     // A base: a pattern, (), or a past in round brackets.
+    // Kept: a pattern too, though `further` reads patterns itself and calls this at a `(` alone. So the promise is that of every base.
     #[cycle(base_factor_further_past_sequence)]
     fn base(&self, at: usize, k: usize) -> Walk
         ensures { BaseRead self.now.positions self.now.matcher.above.now self.now.matcher.event.now self.now.matcher.code.now at k result }
@@ -126,7 +128,7 @@ impl Step<'_> {
         }
     }
 
-    // A sequence: factors side by side, at least one. What is found before the first is what is found of `()`. It is made part of `past`, where most pasts are
+    // A sequence: factors side by side, at least one. What is found before the first is what is found of `()`. It is made part of `past`, since most pasts are
     // one sequence.
     #[inline(always)]
     #[cycle(base_factor_further_past_sequence)]

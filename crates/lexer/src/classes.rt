@@ -45,7 +45,7 @@ pub fn has_class(b: u8) -> bool
     matches!(b, b' '..=b'~')
 }
 
-// Whether a byte stands in words, which are the bytes of classes 2, 3 and 4. Its own tests, as every byte of a word is asked this, and letters come first.
+// Whether a byte stands in words: whether it is of class 2, 3 or 4. By tests of its own, as every byte of a word is asked this, with letters first.
 #[tactic(auto, unfolding(crate::specs::Class::wordy, crate::specs::Class::class_of))]
 pub fn is_wordy(b: u8) -> bool
     ensures { result ≡ wordy b }

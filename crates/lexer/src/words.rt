@@ -44,7 +44,7 @@ fn blank(bytes: &[u8]) -> bool
         .fold(true, |blank, b| blank & (class_of(*b) == 1))
 }
 
-// What is left of a text after sixteen spaces at a time, as many times as it begins with so many.
+// A rest of a text that has the same rest after its spaces: spaces in front are left out, sixteen at a time. How many is not promised.
 fn skip_sixteens(s: &[u8]) -> &[u8]
     ensures { after spacey result.now ≡ after spacey s.now }
 {

@@ -33,6 +33,7 @@ impl Matcher<'_> {
     }
 
     // The place after the item at `at`, whose first byte is given, where the role at i of the event meets it.
+    // Kept: `requires`. `items` has just read the byte at `at`.
     #[tactic(auto, unfolding(crate::specs::Judged::met_item))]
     fn met_item(&self, first: u8, at: usize, i: usize) -> Option<usize>
         requires { at < length self.now.code.now }
@@ -46,7 +47,7 @@ impl Matcher<'_> {
         self.role_at(true, named, i).then_some(name + 1)
     }
 
-    // Where the items from at on end: after their `>`, or where the code ends before one.
+    // Where the items from at on end: after their `>`. Of code that spells none only that it is not before at.
     fn items_end(&self, at: usize) -> usize
         ensures { ItemsEnd self.now.code.now at result }
     {

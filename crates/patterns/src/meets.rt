@@ -1,4 +1,4 @@
-// Whether an event meets a pattern, where no one asks for the pattern's end: nothing is read past what decides.
+// Whether an event meets a pattern, where no one asks for the pattern's end: of a simple pattern nothing is read past what decides.
 ghost use Rattle.patterns.specs.Met.{ItemsMet, PatternMet};
 
 use crate::judge::Matcher;
