@@ -2,7 +2,7 @@
 //! has cost.
 //!
 //! The same is what is kept, in as many bytes: packed names, parents, of each role those above it as a set, of each rule a row of code with the places of its
-//! trigger and its response, the positions at which its past may end and those that it holds. Nothing else is worked out beforehand, and nothing is on the heap.
+//! trigger and its response, the positions at which its past may end and those that it holds. Nothing else is worked out beforehand; nothing is on the heap.
 //! The same are the steps and their order: the frame; tokens, read afresh by each reader, and the kinds of words; an event read in one pass; a line recognized
 //! first, and then read to ids and code, its patterns counted; the refusals; items until one is not met, conditions by their nesting, the walk over a past's
 //! code for each event and what is put together of its parts; the chain, response by response; the columns of a reply; the records of an image, and its lines
@@ -14,7 +14,8 @@
 //! - Classes of bytes are asked one by one, with no number between. Refusals and kinds of replies are their numbers and letters.
 //! - Lists are loops also in the recognizers, in conditions, in a trigger's items and in templates; items go over the event's roles by an iterator.
 //! - What no call leads to is not there: a pattern as a walk of its own, bounds for ids and for pattern numbers above those that a line has room for.
-//! - A rule's row is made once no refusal is left. What a step of the chain changes is changed in place. A reply's name is written with its padding.
+//! - A rule's row is made once no refusal is left. A step of the walk or of the chain changes in place what it goes on with. A reply's name is written with
+//!   its padding.
 //! - The digits of an image's marks are read by the standard library (`../image.rs`, which the monitor with tables uses too).
 
 mod calls;

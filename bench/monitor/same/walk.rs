@@ -57,22 +57,17 @@ impl Step<'_> {
     }
 
     /// One factor more.
-    fn further(&self, walk: Walk) -> Walk {
-        let Walk { end, summary } = walk;
-        if self.matcher.byte(end) == b'(' {
-            let factor = self.factor(end, summary.next);
-            return Walk {
-                end: factor.end,
-                summary: summary.in_order(factor.summary),
-            };
+    fn further(&self, walk: &mut Walk) {
+        if self.matcher.byte(walk.end) == b'(' {
+            let factor = self.factor(walk.end, walk.summary.next);
+            walk.end = factor.end;
+            walk.summary = walk.summary.in_order(factor.summary);
+            return;
         }
-        let (stars, met) = self.matcher.pattern(end);
-        let end = self.stars_end(stars);
-        let starred = end != stars;
-        Walk {
-            end,
-            summary: summary.then_pattern(self.positions, met, starred),
-        }
+        let (stars, met) = self.matcher.pattern(walk.end);
+        walk.end = self.stars_end(stars);
+        let starred = walk.end != stars;
+        walk.summary = walk.summary.then_pattern(self.positions, met, starred);
     }
 
     /// Factors side by side.
@@ -82,7 +77,7 @@ impl Step<'_> {
             summary: Summary::nothing(next),
         };
         loop {
-            walk = self.further(walk);
+            self.further(&mut walk);
             if !matches!(self.matcher.byte(walk.end), b'a' | b'<' | b'[' | b'(') {
                 return walk;
             }
