@@ -1,7 +1,8 @@
 -- A batch worked record by record.
 -- Assumes nothing.
-use Rattle.std.proofs.Common.{◌≡◌, refl, sym, ap, ap₂, ◌∙◌, subst, true, List, [], ◌∷◌, ◌++◌, append_assoc, append-nil, ℕ, zero, suc, ◌+◌, ◌*◌, ◌/◌, ◌≤◌, arith, length, take, drop, length-append, length-drop, length-take-le, drop-drop, take_at, drop_at}
+use Rattle.std.proofs.Common.{◌≡◌, refl, sym, ap, ap₂, ◌∙◌, subst, true, false, List, [], ◌∷◌, ◌++◌, append_assoc, append-nil, ℕ, zero, suc, ◌+◌, ◌*◌, ◌/◌, ◌≤◌, arith, length, take, drop, length-append, length-drop, length-take-le, drop-drop, take_at, drop_at}
 use borrow.Rule.Slice.PartMut.{put_mid}
+use Rattle.common.proofs.Bools.{true_not_false}
 use Rattle.follow.specs.declared.state.State.{State}
 use Rattle.book.specs.Decide.{Call, Answer}
 use Rattle.book.specs.Session.{run_end}
@@ -10,6 +11,7 @@ use Rattle.book.proofs.Runs.{run-last}
 use Rattle.book.proofs.Batches.{buffers-append}
 use Rattle.monitor.specs.Handled.{Handles, Handled}
 use Rattle.monitor.specs.Sessions.{Session}
+use Rattle.batch.specs.Handled.{BatchHandles}
 use Rattle.batch.proofs.SizeLaws.{whole-records, replies_for_each}
 use Rattle.batch.proofs.PartLaws.{Filled, filled_none, part_lent, same_room, filled_more}
 
@@ -104,3 +106,7 @@ module _ {f : State} {s b : List ℕ} {m : State} {left : List ℕ} {size : ℕ}
         let handled = subst (λ (k : ℕ). Handles m x (take 50 (drop k left)) y r) at (subst (λ (k : ℕ). Handles m x (take k (drop to left)) y r) w g) in
         rw (at, w, n, p.whole, c)
         (made_more y r handled (sized ∙ ap₂ (λ (k l : ℕ). length (take k (drop l left))) w at ∙ fifty))
+
+-- the buffers are not those of a batch
+pub turned_away : (f : State) (s b : List ℕ) → batch_fits s b ≡ false → BatchHandles f s b b (record { number = 11; monitor = f })
+turned_away f s b e = record { taken = λ t. absurd (true_not_false (batch_fits s b) t e); refused = λ n. record { is = refl; buffer = refl } }

@@ -79,3 +79,7 @@ level l parse s r g = at_depths l parse s r go
     go : (f : ℕ) → length s * 8 + l < f → ReadsAs (parse f) s r
     go zero q = absurd (omega arith)
     go (suc f) q = g f (omega arith)
+
+-- t is an end of s or all of it, and what is read from t on is read of s: what a loop keeps that reads part after part
+abbrev pub ReadsOn : {A : Type 0} → ℕ → (ℕ → List Token → Parsed A) → List ℕ → List ℕ → Type 0
+ReadsOn l parse s t = (length t ≤ length s) × ((r : Answer) → ReadsAsLevel l parse t r → ReadsAsLevel l parse s r)

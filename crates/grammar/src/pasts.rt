@@ -35,10 +35,13 @@ fn factor_begins(s: &[u8]) -> bool
 pub fn past(s: &[u8]) -> Option<&[u8]>
     ensures { ReadsAsLevel 6 past_of s.now result }
 {
-    let left = sequence(s)?;
-    match mark_at(left, b'+') {
-        Some(more) => past(more),
-        None => Some(left),
+    let mut at = s;
+    loop {
+        let left = sequence(at)?;
+        let Some(more) = mark_at(left, b'+') else {
+            return Some(left);
+        };
+        at = more;
     }
 }
 
@@ -47,11 +50,13 @@ pub fn past(s: &[u8]) -> Option<&[u8]>
 fn sequence(s: &[u8]) -> Option<&[u8]>
     ensures { ReadsAsLevel 5 sequence_of s.now result }
 {
-    let left = factor(s)?;
-    if factor_begins(left) {
-        sequence(left)
-    } else {
-        Some(left)
+    let mut at = s;
+    loop {
+        let left = factor(at)?;
+        if !factor_begins(left) {
+            return Some(left);
+        }
+        at = left;
     }
 }
 

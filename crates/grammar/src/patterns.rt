@@ -52,10 +52,13 @@ fn simple(s: &[u8]) -> Option<&[u8]>
 fn condition(s: &[u8]) -> Option<&[u8]>
     ensures { ReadsAsLevel 1 condition_of s.now result }
 {
-    let left = term(s)?;
-    match word_at(left, WordKind::Or) {
-        Some(more) => condition(more),
-        None => Some(left),
+    let mut at = s;
+    loop {
+        let left = term(at)?;
+        let Some(more) = word_at(left, WordKind::Or) else {
+            return Some(left);
+        };
+        at = more;
     }
 }
 
@@ -64,17 +67,19 @@ fn condition(s: &[u8]) -> Option<&[u8]>
 fn term(s: &[u8]) -> Option<&[u8]>
     ensures { ReadsAsLevel 0 term_of s.now result }
 {
-    if let Some(left) = word_at(s, WordKind::Not) {
-        return term(left);
+    let mut at = s;
+    while let Some(left) = word_at(at, WordKind::Not) {
+        at = left;
     }
-    let Some(inside) = mark_at(s, b'(') else {
-        return simple(s);
+    let Some(inside) = mark_at(at, b'(') else {
+        return simple(at);
     };
     let close = condition(inside)?;
     mark_at(close, b')')
 }
 
-// A pattern.
+// A pattern. It is no part of the cycle of pasts, whose frames on the stack then hold nothing of it.
+#[inline(never)]
 pub fn pattern(s: &[u8]) -> Option<&[u8]>
     ensures { ReadsAsLevel 2 pattern_of s.now result }
 {

@@ -76,16 +76,26 @@ fn line(rt: &impl Print, text: &[u8], held: &[u64]) -> io::Result<()> {
     }
 }
 
-// An event's text: whether its roles are held, and their ids.
-fn event(rt: &impl Print, text: &[u8], held: &[u64]) -> io::Result<()> {
-    match event_line(text, held) {
-        Ok(_) => rt.write_all(b"event, roles held, ids")?,
-        Err(Refusal::NotDeclared) => rt.write_all(b"event, role not held, refused 6, ids")?,
-        Err(refusal) => return refused(rt, refusal),
-    }
+// The ids of an event whose roles are not all held, which no event line hands back.
+fn ids_shown(rt: &impl Print, text: &[u8], held: &[u64]) -> io::Result<()> {
     match event_ids(text, held) {
         Some(event) => roles_shown(rt, event.roles(), held),
         None => Ok(()),
+    }
+}
+
+// An event's text: whether its roles are held, and their ids, which are those of the event handed back where they are held.
+fn event(rt: &impl Print, text: &[u8], held: &[u64]) -> io::Result<()> {
+    match event_line(text, held) {
+        Ok(event) => {
+            rt.write_all(b"event, roles held, ids")?;
+            roles_shown(rt, event.roles(), held)
+        }
+        Err(Refusal::NotDeclared) => {
+            rt.write_all(b"event, role not held, refused 6, ids")?;
+            ids_shown(rt, text, held)
+        }
+        Err(refusal) => refused(rt, refusal),
     }
 }
 

@@ -5,7 +5,7 @@ use std::io::ErrorKind;
 use std::rt::Files;
 
 // A name and four bytes after it, at the start of `bytes`. A name is cut at 60 bytes, and there is then no such file.
-fn with_ending<'a>(name: &[u8], ending: &[u8; 4], bytes: &'a mut [u8; 64]) -> &'a [u8] {
+pub fn with_ending<'a>(name: &[u8], ending: &[u8; 4], bytes: &'a mut [u8; 64]) -> &'a [u8] {
     let n = name.len().min(60);
     bytes[..n].copy_from_slice(&name[..n]);
     bytes[n..n + 4].copy_from_slice(ending);
