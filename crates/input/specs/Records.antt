@@ -5,6 +5,7 @@ use Rattle.std.specs.List.{FoldsTo, concat}
 use Rattle.std.specs.Fn.{CalledAt, Mut}
 use Rattle.std.specs.Io.KnownBytes.{Consumes, IsAtEnd}
 use denote.Ref.{Bor}
+use Rattle.common.specs.All.{All}
 use Rattle.input.specs.declared.records.Stop.{Stop}
 use Rattle.input.specs.declared.records.Stop.TheVariants.{Ended, Unwritten, Counted}
 
@@ -43,3 +44,19 @@ module _ {F : Type 0} (g : Mut F (Bor (List ℕ) × Unit {0}) Bool) where
     pub last : List ℕ
     pub bytes : Consumes between after last
     pub stops : StopsAt after n left last stop
+
+-- after n whole records `last` is what was read: why that is all, with nothing said of the answers
+abbrev pub ReadStops : Option (List ℕ) → ℕ → List ℕ → Stop → Type 0
+ReadStops after n last Ended = (length last < 128) × IsAtEnd after
+ReadStops after n last Unwritten = (0 < length last) × (length last ≤ 128) × (length last < 128 → IsAtEnd after)
+ReadStops after n last Counted = (last ≡ []) × (n ≡ 18446744073709551615)
+
+-- what was read of the file: whole records, and then the last one
+pub record ReadOn (before after : Option (List ℕ)) (stop : Stop) : Type 0 where
+  pub whole : List (List ℕ)
+  pub long : All (λ s. length s ≡ 128) whole
+  pub between : Option (List ℕ)
+  pub first : Consumes before between (concat whole)
+  pub last : List ℕ
+  pub bytes : Consumes between after last
+  pub stops : ReadStops after (length whole) last stop

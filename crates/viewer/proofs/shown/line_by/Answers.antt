@@ -1,7 +1,7 @@
 use Rattle.std.proofs.Common.{◌≡◌, length, refl, rules}
 use Rattle.viewer.specs.Viewed.{seen_by}
 use Rattle.viewer.proofs.WriteLaws.{line-written}
-use Rattle.viewer.proofs.shown.line_of.Goals as goal
+use Rattle.viewer.proofs.shown.line_by.Goals as goal
 
 -- there are 32 names
 pub returns : goal.returns
